@@ -1,0 +1,9 @@
+pub mod Fronts
+pub mod Walk
+pub mod Rules
+pub mod Sofar
+pub mod Splitting
+pub mod Meaning
+pub mod Reading
+pub mod Pieces
+pub mod Saying

@@ -1,0 +1,12 @@
+pub mod Frames
+pub mod Parts
+pub mod Fields
+pub mod Grammar
+pub mod Seen
+pub mod Refusals
+pub mod Sheets
+pub mod Form
+pub mod Shown
+pub mod Reading
+pub mod Split
+pub mod Lawful
