@@ -1,9 +1,14 @@
 pub mod Fronts
 pub mod Walk
 pub mod Rules
+pub mod Tables
+pub mod Follow
 pub mod Sofar
 pub mod Splitting
 pub mod Meaning
 pub mod Reading
 pub mod Pieces
 pub mod Saying
+pub mod Limits
+pub mod Forms
+pub mod Retiming

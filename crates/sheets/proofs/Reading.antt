@@ -68,20 +68,23 @@ tag-at t (g ∷ gs) k f e =
     (λ other. tag-at t gs k f (ap (λ l. nth l k) (sym (cond-false _ _ _ other)) ∙ e))
     (cases-bool (eqb (g .tag) t))
 
--- each field after the interface has a length of the table
-walked : (w : ℕ) (head : Raw) (before : List Raw) (at : ℕ) (fs : List Raw) → walk w head before at fs ≡ None → (t k : ℕ) (f : Raw) → nth (tagged t fs) k ≡ Some f → fits-of w (byte head 2) t (length (f .content)) ≡ true
+-- each field after the interface has a tag of the kind and a length of the table
+abbrev Fit : ℕ → Raw → ℕ → Raw → Type 0
+Fit w head t f = (belongs-to (byte head 0) t ≡ true) × (fits-of w (byte head 2) t (length (f .content)) ≡ true)
+
+walked : (w : ℕ) (head : Raw) (before : List Raw) (at : ℕ) (fs : List Raw) → walk w head before at fs ≡ None → (t k : ℕ) (f : Raw) → nth (tagged t fs) k ≡ Some f → Fit w head t f
 walked w head before at [] e t k f is = absurd (none-not-some f is)
 walked w head before at (g ∷ gs) e t k f is =
     ⊎-elim
     (λ ok.
         let rest = sym (cond-true _ _ _ ok) ∙ e in
         let parts = and-parts (belongs-to (byte head 0) (g .tag) && fits-of w (byte head 2) (g .tag) (length (g .content)) && leb (highest before) (g .tag) && lower (g .tag) before) (room (byte head 1) before g) ok .0 in
-        let fit = and-parts _ _ (and-parts _ _ (and-parts _ _ parts .0) .0) .1 in
+        let fit = and-parts (belongs-to (byte head 0) (g .tag)) (fits-of w (byte head 2) (g .tag) (length (g .content))) (and-parts _ _ (and-parts _ _ parts .0) .0) in
         ⊎-elim
         (λ same.
             let tag : g .tag ≡ t = eqb-true (g .tag) t same in
             ⊎-elim
-            (λ first. subst (λ x. fits-of w (byte head 2) t (length (x .content)) ≡ true) first (subst (λ n. fits-of w (byte head 2) n (length (g .content)) ≡ true) tag fit))
+            (λ first. subst (Fit w head t) first (subst (λ n. Fit w head n g) tag fit))
             (λ later. walked w head (before ++ g ∷ []) (at + size g) gs rest t (later .0) f (later .1))
             (pick g (tagged t gs) k f (ap (λ l. nth l k) (sym (cond-true _ _ _ same)) ∙ is)))
         (λ other. walked w head (before ++ g ∷ []) (at + size g) gs rest t k f (ap (λ l. nth l k) (sym (cond-false _ _ _ other)) ∙ is))
@@ -112,15 +115,18 @@ headed w (head ∷ fs) e =
     (λ bad. absurd (some-not-none 0 (sym (cond-false _ _ _ bad) ∙ e)))
     (cases-bool (heads-of head))
 
--- a field of a checked sheet, but for the interface, has a length of the table
-pub fitting : (w : ℕ) (all : List Raw) (h : Headed w all) (t : ℕ) → (t ≡ 1 → ⊥) → (k : ℕ) (f : Raw) → nth (tagged t all) k ≡ Some f → fits-of w (byte (h .head) 2) t (length (f .content)) ≡ true
-fitting w all h t not1 k f is =
+-- a field of a checked sheet, but for the interface, is in the table
+pub belonging : (w : ℕ) (all : List Raw) (h : Headed w all) (t : ℕ) → (t ≡ 1 → ⊥) → (k : ℕ) (f : Raw) → nth (tagged t all) k ≡ Some f → (belongs-to (byte (h .head) 0) t ≡ true) × (fits-of w (byte (h .head) 2) t (length (f .content)) ≡ true)
+belonging w all h t not1 k f is =
     let one : h .head .tag ≡ 1 = eqb-true _ 1 (and-parts _ _ (h .heads) .0) in
     let other : eqb (h .head .tag) t ≡ false = other-tag (h .head .tag) t one not1 in
     walked w (h .head) [] (size (h .head)) (h .fs) (h .goes) t k f (ap (λ l. nth l k) (sym (ap (tagged t) (h .is) ∙ cond-false _ _ _ other)) ∙ is)
   where
   other-tag : (n t : ℕ) → n ≡ 1 → (t ≡ 1 → ⊥) → eqb n t ≡ false
   other-tag n t e ne = ⊎-elim (λ same. absurd (ne (sym (eqb-true n t same) ∙ e))) (λ other. other) (cases-bool (eqb n t))
+
+pub fitting : (w : ℕ) (all : List Raw) (h : Headed w all) (t : ℕ) → (t ≡ 1 → ⊥) → (k : ℕ) (f : Raw) → nth (tagged t all) k ≡ Some f → fits-of w (byte (h .head) 2) t (length (f .content)) ≡ true
+fitting w all h t not1 k f is = belonging w all h t not1 k f is .1
 
 -- a reader's lookup, where every field found says what the reader wants
 pub read-as : {X : Type 0} (as-x : Option Said → Option X) (at-x : Raw → X) → as-x None ≡ None → (o : Option Raw) → ((f : Raw) → o ≡ Some f → as-x (field-of f) ≡ Some (at-x f)) → as-x (flattened (mapped field-of o)) ≡ mapped at-x o

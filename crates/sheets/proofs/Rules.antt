@@ -29,11 +29,11 @@ each-not (suc n) e es h z =
     (λ other. and-right _ _ (each-not n e es (omega arith) z))
     (cases-eq e n)
 
-count-push : (t : ℕ) (fs : List Raw) (f : Raw) → count t (fs ++ f ∷ []) ≡ count t fs + cond (eqb (f .tag) t) 1 0
+pub count-push : (t : ℕ) (fs : List Raw) (f : Raw) → count t (fs ++ f ∷ []) ≡ count t fs + cond (eqb (f .tag) t) 1 0
 count-push t [] f = omega arith
 count-push t (g ∷ fs) f = omega (arith, count-push t fs f)
 
-entries-push : (e : ℕ) (fs : List Raw) (f : Raw) → entries e (fs ++ f ∷ []) ≡ entries e fs + cond (eqb (f .tag) 5 && eqb (byte f 0) e) 1 0
+pub entries-push : (e : ℕ) (fs : List Raw) (f : Raw) → entries e (fs ++ f ∷ []) ≡ entries e fs + cond (eqb (f .tag) 5 && eqb (byte f 0) e) 1 0
 entries-push e [] f = omega arith
 entries-push e (g ∷ fs) f = omega (arith, entries-push e fs f)
 

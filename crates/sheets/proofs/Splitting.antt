@@ -2,18 +2,21 @@
 use mathlib.Core.Path.{_≡_, refl, sym, ap, subst, _∙_}
 use mathlib.Core.Bool.{Bool, true, false, cond}
 use mathlib.Core.Logic.{_⊎_, inl, inr, ⊎-elim}
-use mathlib.Core.List.{List, [], _∷_, _++_}
+use mathlib.Core.List.{List, [], _∷_, _++_, append-nil, append-assoc}
 use Prim.Native.Nat.{ℕ, zero, suc, _+_, _*_, _-_, _≤_, _<_}
 use native.Mathlib.Omega.{arith}
 use lib.Dec.{leb}
 use lib.ListN.{length, take, drop}
 use Rattle.std.specs.Options.{mapped}
+use Rattle.std.specs.Results.{isOk}
+use Rattle.std.specs.declared.result.Result.the-variants.{Ok, Err}
 use Rattle.std.specs.declared.option.Option.{Option}
 use Rattle.std.specs.declared.option.Option.the-variants.{Some, None}
 use Rattle.std.proofs.shelf.Lists.{take-append-drop, take-at, drop-at, length-take-le, length-drop, length-append, take-all}
-use Rattle.std.proofs.shelf.Tests.{leb-true, le-leb, cond-true, cond-false, eq-eqb, ne-eqb, cases-eq}
+use Rattle.std.proofs.shelf.Tests.{leb-true, le-leb, cond-true, cond-false, eq-eqb, ne-eqb, cases-eq, false≢true}
 use Rattle.sheets.specs.Frames.{Raw, size, field-at, fields, span, Turn}
-use Rattle.sheets.specs.Split.{Splits, none, more, Begins, CutAt, Framing}
+use Rattle.sheets.specs.Split.{Splits, none, more, Begins, CutAt, Stated, Framing}
+use Rattle.sheets.specs.declared.refusal.Refusal.the-variants.{Cut}
 use Rattle.sheets.specs.Refusals.{framing-of}
 use Rattle.sheets.proofs.Walk.{within, turn, fields-more, fields-end, cond-some, none-some}
 
@@ -61,12 +64,12 @@ unique (more t h l content rest gs e s) =
     ∙ ap (λ l. record { tag = t; content = content } ∷ fields l) next
     ∙ ap (λ gs. record { tag = t; content = content } ∷ gs) (unique s)
 
-take-past : (p q : List ℕ) (n s : ℕ) → n ≡ length p + s → take n (p ++ q) ≡ p ++ take s q
+pub take-past : (p q : List ℕ) (n s : ℕ) → n ≡ length p + s → take n (p ++ q) ≡ p ++ take s q
 take-past [] q n s e = ap (λ i. take i q) (omega arith)
 take-past (x ∷ p) q zero s e = absurd (omega arith)
 take-past (x ∷ p) q (suc n) s e = ap (λ l. x ∷ l) (take-past p q n s (omega arith))
 
-drop-past : (p q : List ℕ) (n s : ℕ) → n ≡ length p + s → drop n (p ++ q) ≡ drop s q
+pub drop-past : (p q : List ℕ) (n s : ℕ) → n ≡ length p + s → drop n (p ++ q) ≡ drop s q
 drop-past [] q n s e = ap (λ i. drop i q) (omega arith)
 drop-past (x ∷ p) q zero s e = absurd (omega arith)
 drop-past (x ∷ p) q (suc n) s e = drop-past p q n s (omega arith)
@@ -108,13 +111,63 @@ upto bs = upto-in (length bs) bs (omega arith)
 not-begins : (bs : List ℕ) → field-at bs ≡ None → Begins bs → ⊥
 not-begins bs e b = none-some _ (sym e ∙ ap field-at (b .6) ∙ found (b .0) (b .1) (b .2) (b .3) (b .4) (b .5))
 
--- what check 1 answers says that the bytes are fields end to end, or where they cease to be
-pub framing-means : (bs : List ℕ) → Framing bs (framing-of bs)
+-- fields end to end take all of the bytes
+span-splits : {bs : List ℕ} {fs : List Raw} → Splits bs fs → span fs ≡ length bs
+span-splits none = refl
+span-splits (more t h l content rest gs e s) = omega (arith, span-splits s, length-append content rest)
+
+-- check 1 accepts what lies end to end
+pub framing-splits : {bs : List ℕ} {fs : List Raw} → Splits bs fs → framing-of bs ≡ Ok tt
 unfolding framing-of
-framing-means bs =
+framing-splits {bs} s = cond-true _ _ _ (eq-eqb _ _ (ap span (unique s) ∙ span-splits s))
+
+-- and what it accepts does
+pub splits-framed : (bs : List ℕ) → isOk (framing-of bs) ≡ true → Splits bs (fields bs)
+unfolding framing-of
+splits-framed bs ok =
+    ⊎-elim
+    (λ all. subst (λ l. Splits l (fields bs)) (take-all (span (fields bs)) bs (omega (arith, all))) (upto bs .splits))
+    (λ part. absurd (false≢true (ap isOk (sym (cond-false _ _ _ (ne-eqb _ _ part))) ∙ ok)))
+    (cases-eq (span (fields bs)) (length bs))
+
+-- fields end to end, and then others
+pub fields-splits : {bs : List ℕ} {fs : List Raw} → Splits bs fs → (rest : List ℕ) → fields (bs ++ rest) ≡ fs ++ fields rest
+fields-splits none rest = refl
+fields-splits (more t h l content bs gs e s) rest =
+    let same : t ∷ h ∷ l ∷ (content ++ bs) ++ rest ≡ t ∷ h ∷ l ∷ content ++ (bs ++ rest) = ap (λ x. t ∷ h ∷ l ∷ x) (append-assoc content bs rest) in
+    let next : drop (3 + length content) (t ∷ h ∷ l ∷ content ++ (bs ++ rest)) ≡ bs ++ rest = rw three (drop-at content (bs ++ rest) (length content) refl) in
+    ap fields same
+    ∙ fields-more (t ∷ h ∷ l ∷ content ++ (bs ++ rest)) (record { tag = t; content = content }) (found t h l content (bs ++ rest) e)
+    ∙ ap (λ l. record { tag = t; content = content } ∷ fields l) next
+    ∙ ap (λ gs. record { tag = t; content = content } ∷ gs) (fields-splits s rest)
+
+-- what check 1 answers says that the bytes are fields end to end, or where they cease to be
+framing-stated : (bs : List ℕ) → Stated bs (framing-of bs)
+unfolding framing-of
+framing-stated bs =
     let u = upto bs in
     ⊎-elim
-    (λ all. subst (Framing bs) (sym (cond-true _ _ _ (eq-eqb _ _ all))) (fields bs, subst (λ l. Splits l (fields bs)) (take-all (span (fields bs)) bs (omega arith)) (u .splits)))
-    (λ part. subst (Framing bs) (sym (cond-false _ _ _ (ne-eqb _ _ part)))
+    (λ all. subst (Stated bs) (sym (cond-true _ _ _ (eq-eqb _ _ all))) (fields bs, subst (λ l. Splits l (fields bs)) (take-all (span (fields bs)) bs (omega arith)) (u .splits)))
+    (λ part. subst (Stated bs) (sym (cond-false _ _ _ (ne-eqb _ _ part)))
         (refl, refl, record { fs = fields bs; before = u .splits; inside = omega (arith, u .within, part); runs-past = not-begins _ (u .stops) }))
     (cases-eq (span (fields bs)) (length bs))
+
+-- where no field begins, none is read
+no-field : (bs : List ℕ) → (Begins bs → ⊥) → fields bs ≡ []
+no-field bs n =
+    ⊎-elim
+    (fields-end bs)
+    (λ some. let f = front-of bs (some .0) (some .1) in absurd (n (some .0 .tag, f .high, f .low, some .0 .content, drop (size (some .0)) bs, f .long, f .is)))
+    (cases-option (field-at bs))
+
+cut-found : (bs : List ℕ) (p : ℕ) → CutAt bs p → framing-of bs ≡ Err (Cut p)
+unfolding framing-of
+cut-found bs p c =
+    let le : p ≤ length bs = omega (arith, c .inside) in
+    let is : fields bs ≡ c .fs =
+            ap fields (sym (take-append-drop p bs)) ∙ fields-splits (c .before) (drop p bs) ∙ ap (λ l. c .fs ++ l) (no-field (drop p bs) (c .runs-past)) ∙ append-nil (c .fs) in
+    let spans : span (fields bs) ≡ p = ap span is ∙ span-splits (c .before) ∙ length-take-le p bs le in
+    cond-false _ _ _ (ne-eqb (span (fields bs)) (length bs) (λ e. omega (arith, e, spans, c .inside))) ∙ ap (λ n. Err (Cut n)) spans
+
+pub framing-means : (bs : List ℕ) → Framing bs (framing-of bs)
+framing-means bs = record { sound = framing-stated bs; accepts = λ fs s. framing-splits s; refuses = cut-found bs }

@@ -8,6 +8,7 @@ use Rattle.std.specs.declared.result.Result.the-variants.{Ok, Err}
 use Rattle.sheets.specs.Frames.{Raw, span}
 use Rattle.sheets.specs.Refusals.{number, level, place}
 use Rattle.sheets.specs.declared.refusal.Refusal.{Refusal}
+use Rattle.sheets.specs.declared.refusal.Refusal.the-variants.{Cut}
 
 -- the bytes are these fields, end to end
 pub data Splits : List ℕ → List Raw → Type 0 where
@@ -25,7 +26,13 @@ pub record CutAt (bs : List ℕ) (p : ℕ) : Type 0 where
   pub inside : p < length bs
   pub runs-past : Begins (drop p bs) → ⊥
 
--- what check 1 answers
-abbrev pub Framing : List ℕ → Result Unit Refusal → Type 0
-Framing bs (Ok u) = (fs : List Raw) × Splits bs fs
-Framing bs (Err e) = (number e ≡ 1) × (level e ≡ 1) × CutAt bs (place e)
+-- what an answer of check 1 says
+abbrev pub Stated : List ℕ → Result Unit Refusal → Type 0
+Stated bs (Ok u) = (fs : List Raw) × Splits bs fs
+Stated bs (Err e) = (number e ≡ 1) × (level e ≡ 1) × CutAt bs (place e)
+
+-- check 1 answers what is so, accepts whatever lies end to end, and names every cut's place
+pub record Framing (bs : List ℕ) (r : Result Unit Refusal) : Type 0 where
+  pub sound : Stated bs r
+  pub accepts : (fs : List Raw) → Splits bs fs → r ≡ Ok tt
+  pub refuses : (p : ℕ) → CutAt bs p → r ≡ Err (Cut p)

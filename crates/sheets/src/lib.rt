@@ -4,7 +4,9 @@ pub mod words;
 pub mod refusal;
 pub mod part;
 pub mod field;
-pub mod grammar;
+mod grammar;
 pub mod opened;
-pub mod lookup;
+mod lookup;
 pub mod reads;
+#[cfg(test)]
+mod tests;

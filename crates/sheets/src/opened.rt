@@ -2,6 +2,8 @@
 ghost use mathlib.Core.Path.{_≡_};
 ghost use mathlib.Core.Bool.{true};
 ghost use Rattle.std.specs.Results.{isOk};
+ghost use Rattle.sheets.specs.Form.{Form};
+ghost use Rattle.sheets.specs.Sheets.{sheet-of};
 ghost use Rattle.sheets.specs.Lawful.{Grammatical};
 ghost use Rattle.sheets.specs.Split.{Framing};
 ghost use Rattle.sheets.specs.Refusals.{framing-of, check-of};
@@ -85,6 +87,7 @@ impl<'a> Opened<'a> {
         requires { ⌜ isOk (check-of (width .bytes) (now (self .bytes))) ≡ true ⌝ }
         ensures bytes { λ r. ⌜ now (r .bytes) ≡ now (self .entry .bytes) ⌝ }
         ensures width { λ r. ⌜ r .width ≡ width ⌝ }
+        ensures form { λ _. ⌜ Form (width .bytes) (sheet-of (width .bytes) (now (self .entry .bytes))) ⌝ }
     {
         let Opened { bytes } = self;
         Checked { bytes, width }

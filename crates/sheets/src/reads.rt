@@ -2,8 +2,10 @@
 ghost use mathlib.Core.Path.{_≡_};
 ghost use lib.ListN.{length, getD};
 ghost use mathlib.Core.List.{[]};
-ghost use Rattle.std.specs.Options.{mapped};
+ghost use Prim.Native.Nat.{_≤_};
+ghost use Rattle.std.specs.Options.{mapped, Cases};
 ghost use Rattle.std.specs.Finite.{nth};
+ghost use Rattle.sheets.specs.Form.{AmountAt};
 ghost use Rattle.sheets.specs.Shown.{shown-entry};
 ghost use Rattle.sheets.specs.Sheets.{count-of, offsets-of, sheet-of};
 use crate::field::ServiceEntry;
@@ -15,6 +17,9 @@ use crate::words::Connection;
 use crate::words::Interface;
 use crate::words::Item;
 use crate::words::Transition;
+
+// The interface takes six bytes, and the tag and length of the amounts' field three.
+const AMOUNTS: usize = 9;
 
 impl<'a> Checked<'a> {
     // How many bytes an amount of this sheet takes.
@@ -60,6 +65,16 @@ impl<'a> Checked<'a> {
         ensures { λ r. ⌜ mapped (λ a. a .now) r ≡ nth (sheet-of (now (self .entry) .width .bytes) (now (now (self .entry) .bytes)) .amounts) k ⌝ }
     {
         piece(as_amounts(field(self.bytes, 2, 0)), self.width, k)
+    }
+
+    // Where the amount of algorithm k stands, in bytes from the sheet's first: other bytes of its width may be written there.
+    pub fn amount_place(&self, k: usize) -> Option<usize>
+        ensures { λ r. ⌜ Cases r (length (sheet-of (now (self .entry) .width .bytes) (now (now (self .entry) .bytes)) .amounts) ≤ k) (AmountAt (now (self .entry) .width .bytes) (now (now (self .entry) .bytes)) k) ⌝ }
+    {
+        if k >= self.amounts() {
+            return None;
+        }
+        Some(AMOUNTS + k * self.width.bytes)
     }
 
     // How many actions state k has.
