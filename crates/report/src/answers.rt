@@ -1,9 +1,11 @@
 // What the report answers for each sheet of a file.
 ghost use mathlib.Core.Path.{_≡_};
+ghost use lib.ListN.{length};
 ghost use Rattle.std.specs.Of.Vec.{vec-items};
 ghost use Rattle.std.specs.Vec.{made};
 ghost use Rattle.report.specs.Lines.{check-both, answer-of, lines-of};
 use crate::line::Line;
+use sheets::opened::Checked;
 use sheets::opened::Opened;
 use sheets::opened::framing;
 use sheets::part::first;
@@ -15,15 +17,22 @@ use std::alloc::Global;
 // The tag of a sheet in a file.
 const SHEET: u8 = 9;
 
-// Checks 1 and 2, and the sheet's length in bytes.
+// What is said of a checked sheet: its length in bytes.
+fn length_of(sheet: &Checked<'_>) -> usize
+    ensures { λ r. ⌜ r ≡ length (now (now (sheet .entry) .bytes)) ⌝ }
+{
+    sheet.len()
+}
+
+// Checks 1 and 2, and then what is said of the sheet.
 fn check_sheet(bytes: &[u8], width: Width) -> Result<usize, Refusal>
     ensures { λ r. ⌜ r ≡ check-both (width .bytes) (now (bytes .entry)) ⌝ }
 {
     framing(bytes)?;
     let opened = Opened::new(bytes);
     opened.check(width)?;
-    let _checked = opened.into_checked(width);
-    Ok(bytes.len())
+    let checked = opened.into_checked(width);
+    Ok(length_of(&checked))
 }
 
 fn answer(bytes: &[u8], width: Width) -> Line

@@ -22,6 +22,13 @@ use crate::words::Transition;
 const AMOUNTS: usize = 9;
 
 impl<'a> Checked<'a> {
+    // The sheet's length, in bytes.
+    pub fn len(&self) -> usize
+        ensures { λ r. ⌜ r ≡ length (now (now (self .entry) .bytes)) ⌝ }
+    {
+        self.bytes.len()
+    }
+
     // How many bytes an amount of this sheet takes.
     pub fn width(&self) -> Width
         ensures { λ r. ⌜ r ≡ now (self .entry) .width ⌝ }
