@@ -1,0 +1,3 @@
+-- The order of working. Assumes nothing.
+pub mod Order
+pub mod Ways

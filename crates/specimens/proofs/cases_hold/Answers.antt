@@ -1,0 +1,19 @@
+-- The worked cases, by computation.
+use mathlib.Core.Path.{refl, ap}
+use mathlib.Core.List.{[], _∷_}
+use Rattle.costs.specs.Lists.{merged}
+use Rattle.costs.specs.Reducers.{kept, merged-alone}
+use Rattle.costs.proofs.Same.{same-ticks, same-lists, same-entries}
+use Rattle.specimens.proofs.cases_hold.Needs as need
+
+pub returns : need.returns
+unfolding kept merged-alone merged
+returns c = record {
+  costs = record {
+    ticks-exact = same-ticks _ _ refl;
+    ticks-over = same-ticks _ _ refl;
+    memory-greater = refl;
+    keep-four = refl;
+    merge-four = ap (λ e. e ∷ []) (same-entries _ _ (same-ticks _ _ refl) (same-lists _ _ refl));
+  };
+}

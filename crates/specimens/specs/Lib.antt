@@ -1,0 +1,2 @@
+-- The worked cases. Assumes nothing.
+pub mod Cases
