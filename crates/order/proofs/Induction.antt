@@ -7,7 +7,7 @@ use native.Mathlib.Omega.{arith}
 use lib.ListN.{length, getD, take}
 use Rattle.std.specs.shelf.Lists.{Has}
 use Rattle.std.proofs.shelf.Elements.{has-getD}
-use Rattle.std.proofs.shelf.Lists.{length-take, getD-take, take-more-same}
+use Rattle.std.proofs.shelf.Lists.{length-take, getD-take, take-more-same, take-all}
 use Rattle.std.proofs.shelf.Tests.{cases-lt}
 use Rattle.order.specs.Order.{Next, Order, Complete}
 
@@ -57,3 +57,17 @@ module _ {Node : ℕ → Type 0} {leads : ℕ → ℕ → Type 0} where
       let one = next-one (getD ws k 0) (getD us k 0) (a k (omega arith)) (subst (λ l. Next Node leads (Has l) (getD us k 0)) (sym ih) (b k (omega arith))) in
       let step : k + 1 ≡ suc k = omega arith in
       subst (λ j. take j ws ≡ take j us) step (take-more-same ws us k 0 (omega arith) (omega arith) ih one)
+
+  -- an order of all nodes is not shorter than another
+  not-shorter : (ws us : List ℕ) → Complete Node leads ws → Order Node leads us → length ws < length us → ⊥
+  not-shorter ws us complete order lt =
+      let k = length ws in
+      let front : take k us ≡ ws = same-front us ws order (complete .order) k (omega arith) (omega arith) ∙ take-all k ws (omega arith) in
+      let next = order k lt in
+      next .unworked (subst (λ l. Has l (getD us k 0)) (sym front) (complete .all (getD us k 0) (next .node)))
+
+  -- there is one order of all nodes
+  pub complete-one : (ws us : List ℕ) → Complete Node leads ws → Complete Node leads us → ws ≡ us
+  complete-one ws us a b =
+      let even : length ws ≡ length us = ⊎-elim (λ lt. absurd (not-shorter ws us a (b .order) lt)) (λ le. ⊎-elim (λ lt. absurd (not-shorter us ws b (a .order) lt)) (λ ge. omega (arith, le, ge)) (cases-lt (length us) (length ws))) (cases-lt (length ws) (length us)) in
+      sym (take-all (length ws) ws (omega arith)) ∙ same-front ws us (a .order) (b .order) (length ws) (omega arith) (omega arith) ∙ take-all (length ws) us (omega arith)

@@ -33,21 +33,23 @@ lower-in k t fs kt h u need belongs lt =
     let ku = kinds k u (belongs-out belongs) in
     ⊎-elim
     (λ two. same-count u 2 fs two
-        (⊎-elim
-        (λ three. leb-true 1 (count 2 fs) (lower-at t 3 fs three h))
-        (λ not3. let four : t ≡ 4 = of-basic kt ku two not3 in leb-true 1 (count 2 fs) (and-parts (some 2 fs) (some 3 fs) (lower-at t 4 fs four h) .0))
-        (cases-eq t 3)))
+    (⊎-elim
+    (λ three. leb-true 1 (count 2 fs) (lower-at t 3 fs three h))
+    (λ not3. let four : t ≡ 4 = of-basic kt ku two not3 in leb-true 1 (count 2 fs) (and-parts (some 2 fs) (some 3 fs) (lower-at t 4 fs four h) .0))
+    (cases-eq t 3)))
     (⊎-elim
     (λ three. let four : t ≡ 4 = of-state kt ku three in same-count u 3 fs three (leb-true 1 (count 3 fs) (and-parts (some 2 fs) (some 3 fs) (lower-at t 4 fs four h) .1)))
     (λ six. let seven : t ≡ 7 = of-instance kt ku six in same-count u 6 fs six (leb-true 1 (count 6 fs) (lower-at t 7 fs seven h))))
     (needed-is need)
   where
-  of-basic : Kinds k t → Kinds k u → u ≡ 2 → (t ≡ 3 → ⊥) → t ≡ 4
-  of-basic a b e not3 = omega arith
-  of-state : Kinds k t → Kinds k u → u ≡ 3 → t ≡ 4
-  of-state a b e = omega arith
-  of-instance : Kinds k t → Kinds k u → u ≡ 6 → t ≡ 7
-  of-instance a b e = omega arith
+    of-basic : Kinds k t → Kinds k u → u ≡ 2 → (t ≡ 3 → ⊥) → t ≡ 4
+    of-basic a b e not3 = omega arith
+
+    of-state : Kinds k t → Kinds k u → u ≡ 3 → t ≡ 4
+    of-state a b e = omega arith
+
+    of-instance : Kinds k t → Kinds k u → u ≡ 6 → t ≡ 7
+    of-instance a b e = omega arith
 
 lower-out : (k t : ℕ) (fs : List Raw) → Kinds k t → Lower k t fs → lower t fs ≡ true
 lower-out k t fs kt h =
@@ -55,18 +57,19 @@ lower-out k t fs kt h =
     (λ e. subst (λ x. lower x fs ≡ true) (sym e) (le-leb 1 (count 2 fs) (h 2 L.Needed.amounts (belongs-as 1 2 k 2 L.Belongs.amounts (basic (omega arith)) refl) (omega arith))))
     (λ not3. ⊎-elim
     (λ e.
-        let one = basic (omega arith) in
-        subst (λ x. lower x fs ≡ true) (sym e)
-        (and-from _ _ (le-leb 1 (count 2 fs) (h 2 L.Needed.amounts (belongs-as 1 2 k 2 L.Belongs.amounts one refl) (omega arith))) (le-leb 1 (count 3 fs) (h 3 L.Needed.state (belongs-as 1 3 k 3 L.Belongs.state one refl) (omega arith)))))
+    let one = basic (omega arith) in
+    subst (λ x. lower x fs ≡ true) (sym e)
+    (and-from _ _ (le-leb 1 (count 2 fs) (h 2 L.Needed.amounts (belongs-as 1 2 k 2 L.Belongs.amounts one refl) (omega arith))) (le-leb 1 (count 3 fs) (h 3 L.Needed.state (belongs-as 1 3 k 3 L.Belongs.state one refl) (omega arith)))))
     (λ not4. ⊎-elim
     (λ e. subst (λ x. lower x fs ≡ true) (sym e) (le-leb 1 (count 6 fs) (h 6 L.Needed.instance (belongs-as 3 6 k 6 L.Belongs.instance (composite (omega arith)) refl) (omega arith))))
     (λ not7. rw (ne-eqb t 3 not3, ne-eqb t 4 not4, ne-eqb t 7 not7) refl)
     (cases-eq t 7)) (cases-eq t 4)) (cases-eq t 3)
   where
-  basic : t ≤ 4 → k ≡ 1
-  basic le = omega (arith, kt)
-  composite : 6 ≤ t → k ≡ 3
-  composite le = omega (arith, kt)
+    basic : t ≤ 4 → k ≡ 1
+    basic le = omega (arith, kt)
+
+    composite : 6 ≤ t → k ≡ 3
+    composite le = omega (arith, kt)
 
 most-is : {t n : ℕ} → Most t n → most-of t ≡ n
 most-is L.Most.amounts = refl

@@ -54,35 +54,35 @@ few-of nothing t not5 = omega arith
 few-of {w} {head} (one-more fs f acc ok) t not5 =
     ⊎-elim
     (λ same.
-        let is : f .tag ≡ t = eqb-true (f .tag) t same in
-        let other : eqb (f .tag) 5 ≡ false = not-five (f .tag) (λ e. not5 (sym is ∙ e)) in
-        let lt : ltb (count (f .tag) fs) (most-of (f .tag)) ≡ true = sym (cond-false _ _ _ other) ∙ room-of w head fs f (follows-decides w head fs f .1 ok) in
-        let below : count t fs < most-of t = subst (λ n. count n fs < most-of n) is (ltb-true _ _ lt) in
-        omega (arith, count-push t fs f, below, cond-true {A = ℕ} (eqb (f .tag) t) 1 0 same))
+    let is : f .tag ≡ t = eqb-true (f .tag) t same in
+    let other : eqb (f .tag) 5 ≡ false = not-five (f .tag) (λ e. not5 (sym is ∙ e)) in
+    let lt : ltb (count (f .tag) fs) (most-of (f .tag)) ≡ true = sym (cond-false _ _ _ other) ∙ room-of w head fs f (follows-decides w head fs f .1 ok) in
+    let below : count t fs < most-of t = subst (λ n. count n fs < most-of n) is (ltb-true _ _ lt) in
+    omega (arith, count-push t fs f, below, cond-true {A = ℕ} (eqb (f .tag) t) 1 0 same))
     (λ other.
-        omega (arith, count-push t fs f, few-of acc t not5, cond-false {A = ℕ} (eqb (f .tag) t) 1 0 other))
+    omega (arith, count-push t fs f, few-of acc t not5, cond-false {A = ℕ} (eqb (f .tag) t) 1 0 other))
     (cases-bool (eqb (f .tag) t))
   where
-  not-five : (n : ℕ) → (n ≡ 5 → ⊥) → eqb n 5 ≡ false
-  not-five n ne = ⊎-elim (λ same. absurd (ne (eqb-true n 5 same))) (λ other. other) (cases-bool (eqb n 5))
+    not-five : (n : ℕ) → (n ≡ 5 → ⊥) → eqb n 5 ≡ false
+    not-five n ne = ⊎-elim (λ same. absurd (ne (eqb-true n 5 same))) (λ other. other) (cases-bool (eqb n 5))
 
 pub few-for : {w : ℕ} {head : Raw} {fs : List Raw} → Accepts w head fs → (e : ℕ) → e < byte head 1 → entries e fs ≤ 16
 few-for nothing e lt = omega arith
 few-for {w} {head} (one-more fs f acc ok) e lt =
     ⊎-elim
     (λ same.
-        let p = and-parts (eqb (f .tag) 5) (eqb (byte f 0) e) same in
-        let is : byte f 0 ≡ e = eqb-true (byte f 0) e (p .1) in
-        let first : first-is (f .content) (λ e. cond (ltb e (byte head 1)) (ltb (entries e fs) 16) true) ≡ true = sym (cond-true _ _ _ (p .0)) ∙ room-of w head fs f (follows-decides w head fs f .1 ok) in
-        let below : entries e fs < 16 = first-room (f .content) is first in
-        omega (arith, entries-push e fs f, below, cond-true {A = ℕ} (eqb (f .tag) 5 && eqb (byte f 0) e) 1 0 same))
+    let p = and-parts (eqb (f .tag) 5) (eqb (byte f 0) e) same in
+    let is : byte f 0 ≡ e = eqb-true (byte f 0) e (p .1) in
+    let first : first-is (f .content) (λ e. cond (ltb e (byte head 1)) (ltb (entries e fs) 16) true) ≡ true = sym (cond-true _ _ _ (p .0)) ∙ room-of w head fs f (follows-decides w head fs f .1 ok) in
+    let below : entries e fs < 16 = first-room (f .content) is first in
+    omega (arith, entries-push e fs f, below, cond-true {A = ℕ} (eqb (f .tag) 5 && eqb (byte f 0) e) 1 0 same))
     (λ other.
-        omega (arith, entries-push e fs f, few-for acc e lt, cond-false {A = ℕ} (eqb (f .tag) 5 && eqb (byte f 0) e) 1 0 other))
+    omega (arith, entries-push e fs f, few-for acc e lt, cond-false {A = ℕ} (eqb (f .tag) 5 && eqb (byte f 0) e) 1 0 other))
     (cases-bool (eqb (f .tag) 5 && eqb (byte f 0) e))
   where
-  first-room : (c : List ℕ) → getD c 0 0 ≡ e → first-is c (λ e. cond (ltb e (byte head 1)) (ltb (entries e fs) 16) true) ≡ true → entries e fs < 16
-  first-room [] is h = absurd (let z : _≡_ {A = ℕ} 0 1 = cc in omega arith)
-  first-room (b ∷ c) is h = ltb-true _ _ (sym (cond-true (ltb e (byte head 1)) (ltb (entries e fs) 16) true (lt-ltb e (byte head 1) lt)) ∙ subst (λ b. cond (ltb b (byte head 1)) (ltb (entries b fs) 16) true ≡ true) is h)
+    first-room : (c : List ℕ) → getD c 0 0 ≡ e → first-is c (λ e. cond (ltb e (byte head 1)) (ltb (entries e fs) 16) true) ≡ true → entries e fs < 16
+    first-room [] is h = absurd (let z : _≡_ {A = ℕ} 0 1 = cc in omega arith)
+    first-room (b ∷ c) is h = ltb-true _ _ (sym (cond-true (ltb e (byte head 1)) (ltb (entries e fs) 16) true (lt-ltb e (byte head 1) lt)) ∙ subst (λ b. cond (ltb b (byte head 1)) (ltb (entries b fs) 16) true ≡ true) is h)
 
 -- how many amounts, each as wide as it should be
 pub amounts-long : (w : ℕ) (c : List ℕ) → length c ≤ 16 * w → length (amounts-at w c) ≤ 16
@@ -108,11 +108,11 @@ module _ (w : ℕ) (all : List Raw) (h : Headed w all) where
   actions-few k =
       ⊎-elim
       (λ lt.
-          let lt′ : k < length (tagged 3 all) = omega (arith, length-map (tagged 3 all) (λ f. actions-at (f .content))) in
-          let f = getD (tagged 3 all) k no-field in
-          let le : length (f .content) ≤ 8 = leb-true _ _ (and-parts _ _ (fitting w all h 3 (λ e. omega arith) k f (nth-getD (tagged 3 all) k no-field lt′)) .0) in
-          let is = getD-map (λ f. actions-at (f .content)) (tagged 3 all) k no-field [] lt′ in
-          omega (arith, ap length is, length-actions (f .content)))
+      let lt′ : k < length (tagged 3 all) = omega (arith, length-map (tagged 3 all) (λ f. actions-at (f .content))) in
+      let f = getD (tagged 3 all) k no-field in
+      let le : length (f .content) ≤ 8 = leb-true _ _ (and-parts _ _ (fitting w all h 3 (λ e. omega arith) k f (nth-getD (tagged 3 all) k no-field lt′)) .0) in
+      let is = getD-map (λ f. actions-at (f .content)) (tagged 3 all) k no-field [] lt′ in
+      omega (arith, ap length is, length-actions (f .content)))
       (λ ge. omega (arith, ap length (getD-past (map (λ f. actions-at (f .content)) (tagged 3 all)) k [] ge)))
       (cases-lt k (length (map (λ f. actions-at (f .content)) (tagged 3 all))))
 
@@ -122,6 +122,7 @@ module _ (w : ℕ) (all : List Raw) (h : Headed w all) where
       let f = getD (tagged 5 all) k no-field in
       let n : length (f .content) ≡ 1 + w + byte (h .head) 2 = eqb-true _ _ (fitting w all h 5 (λ e. omega arith) k f (nth-getD (tagged 5 all) k no-field lt′)) in
       let is = getD-map (served-at w) (tagged 5 all) k no-field x lt′ in
-      let room : w ≤ length (drop 1 (f .content)) = omega (arith, length-drop 1 (f .content)) in
-      ( ap (λ s. length (s .amount)) is ∙ length-take-le w (drop 1 (f .content)) room
-      , ap (λ s. length (s .counts)) is ∙ length-drop (1 + w) (f .content) ∙ omega arith )
+      let room : w ≤ length (drop 1 (f .content)) = omega (arith, length-drop 1 (f .content)) in (
+        ap (λ s. length (s .amount)) is ∙ length-take-le w (drop 1 (f .content)) room,
+        ap (λ s. length (s .counts)) is ∙ length-drop (1 + w) (f .content) ∙ omega arith,
+      )

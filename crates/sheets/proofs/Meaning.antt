@@ -43,8 +43,8 @@ module _ (w : ℕ) (head : Raw) (ok : Heads head) where
       let d = follows-decides w head before f in
       ⊎-elim
       (λ may. subst (Means w (head ∷ (before ++ f ∷ fs))) (sym (cond-true _ _ _ may))
-          (subst (λ l. Means w (head ∷ l) (walk w head (before ++ f ∷ []) (at + size f) fs)) (append-assoc before (f ∷ []) fs)
-          (walk-means (before ++ f ∷ []) (at + size f) fs (one-more before f acc (d .0 may)) (omega (arith, is, span-push before f)))))
+      (subst (λ l. Means w (head ∷ l) (walk w head (before ++ f ∷ []) (at + size f) fs)) (append-assoc before (f ∷ []) fs)
+      (walk-means (before ++ f ∷ []) (at + size f) fs (one-more before f acc (d .0 may)) (omega (arith, is, span-push before f)))))
       (λ may-not. subst (Means w (head ∷ (before ++ f ∷ fs))) (sym (cond-false _ _ _ may-not)) (cannot-follow head before f fs refl ok acc (not-from-decides _ d may-not) is))
       (cases-bool (follows w head before f))
 

@@ -61,10 +61,10 @@ tag-at t [] k f e = absurd (none-not-some f e)
 tag-at t (g ∷ gs) k f e =
     ⊎-elim
     (λ same.
-        ⊎-elim
-        (λ first. ap (λ x. x .tag) (sym first) ∙ eqb-true (g .tag) t same)
-        (λ later. tag-at t gs (later .0) f (later .1))
-        (pick g (tagged t gs) k f (ap (λ l. nth l k) (sym (cond-true _ _ _ same)) ∙ e)))
+    ⊎-elim
+    (λ first. ap (λ x. x .tag) (sym first) ∙ eqb-true (g .tag) t same)
+    (λ later. tag-at t gs (later .0) f (later .1))
+    (pick g (tagged t gs) k f (ap (λ l. nth l k) (sym (cond-true _ _ _ same)) ∙ e)))
     (λ other. tag-at t gs k f (ap (λ l. nth l k) (sym (cond-false _ _ _ other)) ∙ e))
     (cases-bool (eqb (g .tag) t))
 
@@ -77,18 +77,18 @@ walked w head before at [] e t k f is = absurd (none-not-some f is)
 walked w head before at (g ∷ gs) e t k f is =
     ⊎-elim
     (λ ok.
-        let rest = sym (cond-true _ _ _ ok) ∙ e in
-        let parts = and-parts (belongs-to (byte head 0) (g .tag) && fits-of w (byte head 2) (g .tag) (length (g .content)) && leb (highest before) (g .tag) && lower (g .tag) before) (room (byte head 1) before g) ok .0 in
-        let fit = and-parts (belongs-to (byte head 0) (g .tag)) (fits-of w (byte head 2) (g .tag) (length (g .content))) (and-parts _ _ (and-parts _ _ parts .0) .0) in
-        ⊎-elim
-        (λ same.
-            let tag : g .tag ≡ t = eqb-true (g .tag) t same in
-            ⊎-elim
-            (λ first. subst (Fit w head t) first (subst (λ n. Fit w head n g) tag fit))
-            (λ later. walked w head (before ++ g ∷ []) (at + size g) gs rest t (later .0) f (later .1))
-            (pick g (tagged t gs) k f (ap (λ l. nth l k) (sym (cond-true _ _ _ same)) ∙ is)))
-        (λ other. walked w head (before ++ g ∷ []) (at + size g) gs rest t k f (ap (λ l. nth l k) (sym (cond-false _ _ _ other)) ∙ is))
-        (cases-bool (eqb (g .tag) t)))
+    let rest = sym (cond-true _ _ _ ok) ∙ e in
+    let parts = and-parts (belongs-to (byte head 0) (g .tag) && fits-of w (byte head 2) (g .tag) (length (g .content)) && leb (highest before) (g .tag) && lower (g .tag) before) (room (byte head 1) before g) ok .0 in
+    let fit = and-parts (belongs-to (byte head 0) (g .tag)) (fits-of w (byte head 2) (g .tag) (length (g .content))) (and-parts _ _ (and-parts _ _ parts .0) .0) in
+    ⊎-elim
+    (λ same.
+    let tag : g .tag ≡ t = eqb-true (g .tag) t same in
+    ⊎-elim
+    (λ first. subst (Fit w head t) first (subst (λ n. Fit w head n g) tag fit))
+    (λ later. walked w head (before ++ g ∷ []) (at + size g) gs rest t (later .0) f (later .1))
+    (pick g (tagged t gs) k f (ap (λ l. nth l k) (sym (cond-true _ _ _ same)) ∙ is)))
+    (λ other. walked w head (before ++ g ∷ []) (at + size g) gs rest t k f (ap (λ l. nth l k) (sym (cond-false _ _ _ other)) ∙ is))
+    (cases-bool (eqb (g .tag) t)))
     (λ bad. absurd (some-not-none at (sym (cond-false _ _ _ bad) ∙ e)))
     (cases-bool (follows w head before g))
 
@@ -122,8 +122,8 @@ belonging w all h t not1 k f is =
     let other : eqb (h .head .tag) t ≡ false = other-tag (h .head .tag) t one not1 in
     walked w (h .head) [] (size (h .head)) (h .fs) (h .goes) t k f (ap (λ l. nth l k) (sym (ap (tagged t) (h .is) ∙ cond-false _ _ _ other)) ∙ is)
   where
-  other-tag : (n t : ℕ) → n ≡ 1 → (t ≡ 1 → ⊥) → eqb n t ≡ false
-  other-tag n t e ne = ⊎-elim (λ same. absurd (ne (sym (eqb-true n t same) ∙ e))) (λ other. other) (cases-bool (eqb n t))
+    other-tag : (n t : ℕ) → n ≡ 1 → (t ≡ 1 → ⊥) → eqb n t ≡ false
+    other-tag n t e ne = ⊎-elim (λ same. absurd (ne (sym (eqb-true n t same) ∙ e))) (λ other. other) (cases-bool (eqb n t))
 
 pub fitting : (w : ℕ) (all : List Raw) (h : Headed w all) (t : ℕ) → (t ≡ 1 → ⊥) → (k : ℕ) (f : Raw) → nth (tagged t all) k ≡ Some f → fits-of w (byte (h .head) 2) t (length (f .content)) ≡ true
 fitting w all h t not1 k f is = belonging w all h t not1 k f is .1

@@ -50,7 +50,7 @@ set-cut w (suc n) c zero new e lt le =
 set-cut w (suc n) c (suc k) new e lt le =
     let room : w ≤ length c = omega (arith, suc-mul n w) in
     let there : replaced c (suc k * w) new ≡ take w c ++ replaced (drop w c) (k * w) new =
-            ap (λ l. replaced l (suc k * w) new) (sym (take-append-drop w c)) ∙ replaced-past (take w c) (drop w c) (suc k * w) (k * w) new (omega (arith, suc-mul k w, length-take-le w c room)) in
+    ap (λ l. replaced l (suc k * w) new) (sym (take-append-drop w c)) ∙ replaced-past (take w c) (drop w c) (suc k * w) (k * w) new (omega (arith, suc-mul k w, length-take-le w c room)) in
     rw (there, take-at (take w c) (replaced (drop w c) (k * w) new) w (length-take-le w c room), drop-at (take w c) (replaced (drop w c) (k * w) new) w (length-take-le w c room))
     (ap (λ l. take w c ∷ l) (set-cut w n (drop w c) k new e (omega arith) (omega (arith, suc-mul n w, length-drop w c))))
 
@@ -108,14 +108,14 @@ kind-one k h =
     ⊎-elim
     (λ one. eqb-true k 1 one)
     (λ not1.
-        ⊎-elim
-        (λ two. absurd (false≢true (sym (cond-true _ _ _ two) ∙ sym (cond-false (eqb k 1) true _ not1) ∙ h)))
-        (λ not2.
-            ⊎-elim
-            (λ three. absurd (false≢true (sym (cond-true _ _ _ three) ∙ sym (cond-false (eqb k 2) false _ not2) ∙ sym (cond-false (eqb k 1) true _ not1) ∙ h)))
-            (λ not3. absurd (false≢true (sym (cond-false (eqb k 3) false false not3) ∙ sym (cond-false (eqb k 2) false _ not2) ∙ sym (cond-false (eqb k 1) true _ not1) ∙ h)))
-            (cases-bool (eqb k 3)))
-        (cases-bool (eqb k 2)))
+    ⊎-elim
+    (λ two. absurd (false≢true (sym (cond-true _ _ _ two) ∙ sym (cond-false (eqb k 1) true _ not1) ∙ h)))
+    (λ not2.
+    ⊎-elim
+    (λ three. absurd (false≢true (sym (cond-true _ _ _ three) ∙ sym (cond-false (eqb k 2) false _ not2) ∙ sym (cond-false (eqb k 1) true _ not1) ∙ h)))
+    (λ not3. absurd (false≢true (sym (cond-false (eqb k 3) false false not3) ∙ sym (cond-false (eqb k 2) false _ not2) ∙ sym (cond-false (eqb k 1) true _ not1) ∙ h)))
+    (cases-bool (eqb k 3)))
+    (cases-bool (eqb k 2)))
     (cases-bool (eqb k 1))
 
 amounted : (w : ℕ) (head : Raw) (fs : List Raw) → byte head 0 ≡ 1 → walk w head [] (size head) fs ≡ None → (f : Raw) → nth (tagged 2 fs) 0 ≡ Some f → Amounted fs
@@ -123,23 +123,23 @@ amounted w head [] one e f is = absurd (some-not-none f (sym is))
 amounted w head (g ∷ gs) one e f is =
     ⊎-elim
     (λ ok.
-        let a = and-parts (belongs-to (byte head 0) (g .tag) && fits-of w (byte head 2) (g .tag) (length (g .content)) && leb (highest []) (g .tag) && lower (g .tag) []) (room (byte head 1) [] g) ok .0 in
-        let low = and-parts (belongs-to (byte head 0) (g .tag) && fits-of w (byte head 2) (g .tag) (length (g .content)) && leb (highest []) (g .tag)) (lower (g .tag) []) a in
-        let kind = and-parts (belongs-to (byte head 0) (g .tag)) (fits-of w (byte head 2) (g .tag) (length (g .content))) (and-parts _ _ (low .0) .0) .0 in
-        let two : g .tag ≡ 2 = first-tag (g .tag) (subst (λ k. belongs-to k (g .tag) ≡ true) one kind) (low .1) in
-        record { content = g .content; rest = gs; is = ap (λ t. record { tag = t; content = g .content } ∷ gs) two })
+    let a = and-parts (belongs-to (byte head 0) (g .tag) && fits-of w (byte head 2) (g .tag) (length (g .content)) && leb (highest []) (g .tag) && lower (g .tag) []) (room (byte head 1) [] g) ok .0 in
+    let low = and-parts (belongs-to (byte head 0) (g .tag) && fits-of w (byte head 2) (g .tag) (length (g .content)) && leb (highest []) (g .tag)) (lower (g .tag) []) a in
+    let kind = and-parts (belongs-to (byte head 0) (g .tag)) (fits-of w (byte head 2) (g .tag) (length (g .content))) (and-parts _ _ (low .0) .0) .0 in
+    let two : g .tag ≡ 2 = first-tag (g .tag) (subst (λ k. belongs-to k (g .tag) ≡ true) one kind) (low .1) in
+    record { content = g .content; rest = gs; is = ap (λ t. record { tag = t; content = g .content } ∷ gs) two })
     (λ bad. absurd (some-not-none (size head) (sym (cond-false _ _ _ bad) ∙ e)))
     (cases-bool (follows w head [] g))
   where
-  first-tag : (t : ℕ) → (leb 2 t && leb t 4) ≡ true → lower t [] ≡ true → t ≡ 2
-  first-tag t k l =
-      let p = and-parts (leb 2 t) (leb t 4) k in
-      let at-least = leb-true 2 t (p .0) in
-      let at-most = leb-true t 4 (p .1) in
-      ⊎-elim
-      (λ three. absurd (false≢true (sym (ap (λ n. lower n []) three) ∙ l)))
-      (λ not3. ⊎-elim (λ four. absurd (false≢true (sym (ap (λ n. lower n []) four) ∙ l))) (λ not4. omega arith) (cases-eq t 4))
-      (cases-eq t 3)
+    first-tag : (t : ℕ) → (leb 2 t && leb t 4) ≡ true → lower t [] ≡ true → t ≡ 2
+    first-tag t k l =
+        let p = and-parts (leb 2 t) (leb t 4) k in
+        let at-least = leb-true 2 t (p .0) in
+        let at-most = leb-true t 4 (p .1) in
+        ⊎-elim
+        (λ three. absurd (false≢true (sym (ap (λ n. lower n []) three) ∙ l)))
+        (λ not3. ⊎-elim (λ four. absurd (false≢true (sym (ap (λ n. lower n []) four) ∙ l))) (λ not4. omega arith) (cases-eq t 4))
+        (cases-eq t 3)
 
 abbrev hd : List ℕ → Raw
 hd c = record { tag = 1; content = c }
@@ -245,12 +245,12 @@ module _ (w : ℕ) (bs : List ℕ) (k : ℕ) (s : Shape w bs) (lt : k < length (
     now-says =
         ap (sheet-from w) (unique now-splits)
         ∙ ap (λ a. record { face = interface-at (hd (s .hc)); amounts = a; states = old .states; transitions = old .transitions; entries = old .entries; instances = old .instances; connections = old .connections })
-            (ap (λ n. cut w (n / w) (replaced (s .c) (k * w) new)) (length-replaced (s .c) (k * w) new fits)
-            ∙ set-cut w (length (s .c) / w) (s .c) k new e lt (div-mul-le-self (length (s .c)) w))
+        (ap (λ n. cut w (n / w) (replaced (s .c) (k * w) new)) (length-replaced (s .c) (k * w) new fits)
+        ∙ set-cut w (length (s .c) / w) (s .c) k new e lt (div-mul-le-self (length (s .c)) w))
         ∙ ap (λ fs. with-amount (sheet-from w fs) k new) (sym (s .fields))
       where
-      old : Sheet
-      old = sheet-from w (hd (s .hc) ∷ am (s .c) ∷ s .rest)
+        old : Sheet
+        old = sheet-from w (hd (s .hc) ∷ am (s .c) ∷ s .rest)
 
   found-at : AmountAt w bs k (9 + k * w)
   found-at = record {

@@ -60,10 +60,10 @@ entries-more : (xs ys : List ℕ) (tag b inputs : ℕ) → ys ≡ cond (eqb tag 
 entries-more xs ys tag b inputs is e lt in′ =
     ⊎-elim
     (λ five.
-        ⊎-elim
-        (λ low. let ys-is : ys ≡ more-at xs b = is ∙ cond-true _ _ _ (and-from _ _ (eq-eqb tag 5 five) (lt-ltb b inputs low)) in rw (ys-is, eq-eqb tag 5 five) (more-count xs b e lt))
-        (λ high. let ys-is : ys ≡ xs = is ∙ cond-false _ _ _ (and-right _ _ (le-ltb b inputs high)) in rw (ys-is, ne-eqb b e (λ s. omega arith), eq-eqb tag 5 five) (omega arith))
-        (cases-lt b inputs))
+    ⊎-elim
+    (λ low. let ys-is : ys ≡ more-at xs b = is ∙ cond-true _ _ _ (and-from _ _ (eq-eqb tag 5 five) (lt-ltb b inputs low)) in rw (ys-is, eq-eqb tag 5 five) (more-count xs b e lt))
+    (λ high. let ys-is : ys ≡ xs = is ∙ cond-false _ _ _ (and-right _ _ (le-ltb b inputs high)) in rw (ys-is, ne-eqb b e (λ s. omega arith), eq-eqb tag 5 five) (omega arith))
+    (cases-lt b inputs))
     (λ other. let ys-is : ys ≡ xs = is ∙ cond-false _ _ _ (and-left _ _ (ne-eqb tag 5 other)) in rw (ys-is, ne-eqb tag 5 other) (omega arith))
     (cases-eq tag 5)
 
@@ -110,10 +110,10 @@ module _ (head : Raw) (fs : List Raw) (s : Seen) (h : Sums head fs s) where
       ⊎-elim
       (λ five. rw (eq-eqb (f .tag) 5 five) (first-same (f .content) _ _ event-same))
       (λ not5.
-          ⊎-elim
-          (λ lt. rw (ne-eqb (f .tag) 5 not5, lt-ltb (f .tag) 8 lt, h .counts (f .tag) lt not5))
-          (λ ge. rw (ne-eqb (f .tag) 5 not5, le-ltb (f .tag) 8 ge, none-past (f .tag) (count (f .tag) fs) ge))
-          (cases-lt (f .tag) 8))
+      ⊎-elim
+      (λ lt. rw (ne-eqb (f .tag) 5 not5, lt-ltb (f .tag) 8 lt, h .counts (f .tag) lt not5))
+      (λ ge. rw (ne-eqb (f .tag) 5 not5, le-ltb (f .tag) 8 ge, none-past (f .tag) (count (f .tag) fs) ge))
+      (cases-lt (f .tag) 8))
       (cases-eq (f .tag) 5)
 
   pub allows-is : (w : ℕ) (f : Raw) → allows-in w s f ≡ follows w head fs f

@@ -67,6 +67,7 @@ interface-read f ok = rw (eqb-true (f .tag) 1 (and-parts _ _ ok .0)) (said (f .c
       (λ one. rw one refl)
       (λ not1. ⊎-elim (λ two. rw two refl) (λ not2. let three : k ≡ 3 = omega arith in rw three refl) (cases-eq k 2))
       (cases-eq k 1)
+
   said : (c : List ℕ) → interface-ok c ≡ true → as-interface (interface-of c) ≡ Some (record { kind = valueOr (kind-of (getD c 0 0)) Basic; inputs = getD c 1 0; outputs = getD c 2 0 })
   said [] ok = absurd (false≢true ok)
   said (k ∷ []) ok = absurd (false≢true ok)

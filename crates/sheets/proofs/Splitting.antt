@@ -100,9 +100,9 @@ upto-in (suc n) bs le =
     ⊎-elim
     (none-left bs)
     (λ some.
-        let f : Raw = some .0 in
-        let t = turn bs f (drop (size f) bs) (sym (some .1)) (sym (ap (mapped (λ g. drop (size g) bs)) (some .1))) in
-        subst (Upto bs) (sym (t .more)) (one-more bs (drop (size f) bs) f (fields (drop (size f) bs)) (front-of bs f (some .1)) refl (t .long) (upto-in n (drop (size f) bs) (omega (arith, t .long)))))
+    let f : Raw = some .0 in
+    let t = turn bs f (drop (size f) bs) (sym (some .1)) (sym (ap (mapped (λ g. drop (size g) bs)) (some .1))) in
+    subst (Upto bs) (sym (t .more)) (one-more bs (drop (size f) bs) f (fields (drop (size f) bs)) (front-of bs f (some .1)) refl (t .long) (upto-in n (drop (size f) bs) (omega (arith, t .long)))))
     (cases-option (field-at bs))
 
 pub upto : (bs : List ℕ) → Upto bs (fields bs)
@@ -149,7 +149,7 @@ framing-stated bs =
     ⊎-elim
     (λ all. subst (Stated bs) (sym (cond-true _ _ _ (eq-eqb _ _ all))) (fields bs, subst (λ l. Splits l (fields bs)) (take-all (span (fields bs)) bs (omega arith)) (u .splits)))
     (λ part. subst (Stated bs) (sym (cond-false _ _ _ (ne-eqb _ _ part)))
-        (refl, refl, record { fs = fields bs; before = u .splits; inside = omega (arith, u .within, part); runs-past = not-begins _ (u .stops) }))
+    (refl, refl, record { fs = fields bs; before = u .splits; inside = omega (arith, u .within, part); runs-past = not-begins _ (u .stops) }))
     (cases-eq (span (fields bs)) (length bs))
 
 -- where no field begins, none is read
@@ -165,7 +165,7 @@ unfolding framing-of
 cut-found bs p c =
     let le : p ≤ length bs = omega (arith, c .inside) in
     let is : fields bs ≡ c .fs =
-            ap fields (sym (take-append-drop p bs)) ∙ fields-splits (c .before) (drop p bs) ∙ ap (λ l. c .fs ++ l) (no-field (drop p bs) (c .runs-past)) ∙ append-nil (c .fs) in
+    ap fields (sym (take-append-drop p bs)) ∙ fields-splits (c .before) (drop p bs) ∙ ap (λ l. c .fs ++ l) (no-field (drop p bs) (c .runs-past)) ∙ append-nil (c .fs) in
     let spans : span (fields bs) ≡ p = ap span is ∙ span-splits (c .before) ∙ length-take-le p bs le in
     cond-false _ _ _ (ne-eqb (span (fields bs)) (length bs) (λ e. omega (arith, e, spans, c .inside))) ∙ ap (λ n. Err (Cut n)) spans
 

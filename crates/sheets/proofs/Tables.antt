@@ -59,16 +59,16 @@ kinds k t h =
     ⊎-elim
     (λ one. let p = and-parts (leb 2 t) (leb t 4) (sym (cond-true _ _ _ (eq-eqb k 1 one)) ∙ h) in inl (one, leb-true 2 t (p .0), leb-true t 4 (p .1)))
     (λ not1.
-        let h1 = sym (cond-false (eqb k 1) (leb 2 t && leb t 4) _ (ne-eqb k 1 not1)) ∙ h in
-        ⊎-elim
-        (λ two. inr (inl (two, eqb-true t 5 (sym (cond-true _ _ _ (eq-eqb k 2 two)) ∙ h1))))
-        (λ not2.
-            let h2 = sym (cond-false (eqb k 2) (eqb t 5) _ (ne-eqb k 2 not2)) ∙ h1 in
-            ⊎-elim
-            (λ three. let p = and-parts (leb 6 t) (leb t 7) (sym (cond-true _ _ _ (eq-eqb k 3 three)) ∙ h2) in inr (inr (three, leb-true 6 t (p .0), leb-true t 7 (p .1))))
-            (λ not3. absurd (false≢true (sym (cond-false (eqb k 3) (leb 6 t && leb t 7) false (ne-eqb k 3 not3)) ∙ h2)))
-            (cases-eq k 3))
-        (cases-eq k 2))
+    let h1 = sym (cond-false (eqb k 1) (leb 2 t && leb t 4) _ (ne-eqb k 1 not1)) ∙ h in
+    ⊎-elim
+    (λ two. inr (inl (two, eqb-true t 5 (sym (cond-true _ _ _ (eq-eqb k 2 two)) ∙ h1))))
+    (λ not2.
+    let h2 = sym (cond-false (eqb k 2) (eqb t 5) _ (ne-eqb k 2 not2)) ∙ h1 in
+    ⊎-elim
+    (λ three. let p = and-parts (leb 6 t) (leb t 7) (sym (cond-true _ _ _ (eq-eqb k 3 three)) ∙ h2) in inr (inr (three, leb-true 6 t (p .0), leb-true t 7 (p .1))))
+    (λ not3. absurd (false≢true (sym (cond-false (eqb k 3) (leb 6 t && leb t 7) false (ne-eqb k 3 not3)) ∙ h2)))
+    (cases-eq k 3))
+    (cases-eq k 2))
     (cases-eq k 1)
 
 pub belongs-out : {k t : ℕ} → Belongs k t → belongs-to k t ≡ true
@@ -87,10 +87,10 @@ pub belongs-in : (k t : ℕ) → belongs-to k t ≡ true → Belongs k t
 belongs-in k t h =
     ⊎-elim
     (λ p.
-        ⊎-elim
-        (λ two. belongs-as 1 2 k t L.Belongs.amounts (p .0) two)
-        (λ not2. ⊎-elim (λ three. belongs-as 1 3 k t L.Belongs.state (p .0) three) (λ not3. belongs-as 1 4 k t L.Belongs.transition (p .0) (omega (arith, p .1, p .2))) (cases-eq t 3))
-        (cases-eq t 2))
+    ⊎-elim
+    (λ two. belongs-as 1 2 k t L.Belongs.amounts (p .0) two)
+    (λ not2. ⊎-elim (λ three. belongs-as 1 3 k t L.Belongs.state (p .0) three) (λ not3. belongs-as 1 4 k t L.Belongs.transition (p .0) (omega (arith, p .1, p .2))) (cases-eq t 3))
+    (cases-eq t 2))
     (⊎-elim
     (λ p. belongs-as 2 5 k t L.Belongs.entry (p .0) (p .1))
     (λ p. ⊎-elim (λ six. belongs-as 3 6 k t L.Belongs.instance (p .0) six) (λ not6. belongs-as 3 7 k t L.Belongs.connection (p .0) (omega (arith, p .1, p .2))) (cases-eq t 6)))
@@ -111,13 +111,13 @@ pub fits-in : (w o t n : ℕ) → 2 ≤ t → t ≤ 7 → fits-of w o t n ≡ tr
 fits-in w o t n low high h =
     ⊎-elim
     (λ e.
-        let p = and-parts (leb n (16 * w)) (eqb (n % w) 0) (at-tag t 2 w o n e h) in
-        let le : n ≤ w * 16 = omega (arith, leb-true n (16 * w) (p .0)) in
-        fits-as w o 2 (n / w * w) t n (L.Fits.amounts (n / w) (div-le-of-le-mul w le)) e (omega (arith, div-add-mod' n w, eqb-true (n % w) 0 (p .1))))
+    let p = and-parts (leb n (16 * w)) (eqb (n % w) 0) (at-tag t 2 w o n e h) in
+    let le : n ≤ w * 16 = omega (arith, leb-true n (16 * w) (p .0)) in
+    fits-as w o 2 (n / w * w) t n (L.Fits.amounts (n / w) (div-le-of-le-mul w le)) e (omega (arith, div-add-mod' n w, eqb-true (n % w) 0 (p .1))))
     (λ not2. ⊎-elim
     (λ e.
-        let p = and-parts (leb n 8) (eqb (n % 2) 0) (at-tag t 3 w o n e h) in
-        fits-as w o 3 (n / 2 * 2) t n (L.Fits.state (n / 2) (omega (arith, leb-true n 8 (p .0)))) e (omega (arith, div-add-mod' n 2, eqb-true (n % 2) 0 (p .1))))
+    let p = and-parts (leb n 8) (eqb (n % 2) 0) (at-tag t 3 w o n e h) in
+    fits-as w o 3 (n / 2 * 2) t n (L.Fits.state (n / 2) (omega (arith, leb-true n 8 (p .0)))) e (omega (arith, div-add-mod' n 2, eqb-true (n % 2) 0 (p .1))))
     (λ not3. ⊎-elim
     (λ e. fits-as w o 4 3 t n L.Fits.transition e (eqb-true n 3 (at-tag t 4 w o n e h)))
     (λ not4. ⊎-elim
@@ -147,4 +147,3 @@ pub needed-is : {t : ℕ} → Needed t → (t ≡ 2) ⊎ ((t ≡ 3) ⊎ (t ≡ 6
 needed-is L.Needed.amounts = inl refl
 needed-is L.Needed.state = inr (inl refl)
 needed-is L.Needed.instance = inr (inr refl)
-

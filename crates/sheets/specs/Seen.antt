@@ -54,4 +54,4 @@ pub record Noted (s : Seen) (f : Raw) (n : Seen) : Type 0 where
 abbrev pub Started : Raw → Option Seen → Type 0
 Started f None = heads-of f ≡ false
 Started f (Some s) = (heads-of f ≡ true) × (s .kind ≡ byte f 0) × (s .inputs ≡ byte f 1) × (s .outputs ≡ byte f 2) × (s .last ≡ 1)
-  × (s .counts ≡ replicate 8 0) × (s .entries ≡ replicate 8 0) × (length (f .content) ≡ 3) × (s .inputs ≤ 8)
+    × (s .counts ≡ replicate 8 0) × (s .entries ≡ replicate 8 0) × (length (f .content) ≡ 3) × (s .inputs ≤ 8)

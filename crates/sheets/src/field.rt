@@ -54,7 +54,11 @@ pub(crate) fn number(byte: u8) -> Option<u8>
 fn end(instance: u8, port: u8) -> End
     ensures { λ r. ⌜ r ≡ end-of instance port ⌝ }
 {
-    if instance == 255 { End::Outside { port } } else { End::Inside { instance, port } }
+    if instance == 255 {
+        End::Outside { port }
+    } else {
+        End::Inside { instance, port }
+    }
 }
 
 fn interface<'a>(content: &'a [u8]) -> Option<Field<'a>>
@@ -64,7 +68,11 @@ fn interface<'a>(content: &'a [u8]) -> Option<Field<'a>>
         return None;
     };
     match kind(*byte) {
-        Some(kind) => Some(Field::Interface(Interface { kind, inputs: *inputs, outputs: *outputs })),
+        Some(kind) => Some(Field::Interface(Interface {
+            kind,
+            inputs: *inputs,
+            outputs: *outputs,
+        })),
         None => None,
     }
 }
@@ -75,7 +83,11 @@ fn transition<'a>(content: &'a [u8]) -> Option<Field<'a>>
     let [source, destination, event] = content else {
         return None;
     };
-    Some(Field::Transition(Transition { source: *source, destination: *destination, event: number(*event) }))
+    Some(Field::Transition(Transition {
+        source: *source,
+        destination: *destination,
+        event: number(*event),
+    }))
 }
 
 fn entry<'a>(content: &'a [u8]) -> Option<Field<'a>>
@@ -84,7 +96,10 @@ fn entry<'a>(content: &'a [u8]) -> Option<Field<'a>>
     let [event, rest @ ..] = content else {
         return None;
     };
-    Some(Field::Entry { event: *event, rest })
+    Some(Field::Entry {
+        event: *event,
+        rest,
+    })
 }
 
 fn instance<'a>(content: &'a [u8]) -> Option<Field<'a>>
@@ -102,7 +117,10 @@ fn connection<'a>(content: &'a [u8]) -> Option<Field<'a>>
     let [source, output, target, input] = content else {
         return None;
     };
-    Some(Field::Connection(Connection { source: end(*source, *output), target: end(*target, *input) }))
+    Some(Field::Connection(Connection {
+        source: end(*source, *output),
+        target: end(*target, *input),
+    }))
 }
 
 // What the field says; none where tag and content do not fit.

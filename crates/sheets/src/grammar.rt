@@ -81,7 +81,14 @@ impl Seen {
         let [kind, inputs, outputs] = head.content else {
             return None;
         };
-        Some(Seen { kind: *kind, inputs: *inputs, outputs: *outputs, last: 1, counts: [0; 8], entries: [0; 8] })
+        Some(Seen {
+            kind: *kind,
+            inputs: *inputs,
+            outputs: *outputs,
+            last: 1,
+            counts: [0; 8],
+            entries: [0; 8],
+        })
     }
 
     // The required lower tags have come.

@@ -121,7 +121,11 @@ fn split<'a>(event: u8, rest: &'a [u8], width: Width) -> Option<ServiceEntry<'a>
         return None;
     }
     let (amount, counts) = rest.split_at(width.bytes);
-    Some(ServiceEntry { event, amount, counts })
+    Some(ServiceEntry {
+        event,
+        amount,
+        counts,
+    })
 }
 
 pub(crate) fn as_entry<'a>(field: Option<Field<'a>>, width: Width) -> Option<ServiceEntry<'a>>
@@ -168,5 +172,8 @@ pub(crate) fn action_at(content: &[u8], j: usize) -> Option<Action>
     if j >= content.len() / 2 {
         return None;
     }
-    Some(Action { algorithm: number(content[2 * j]), output: number(content[2 * j + 1]) })
+    Some(Action {
+        algorithm: number(content[2 * j]),
+        output: number(content[2 * j + 1]),
+    })
 }

@@ -24,5 +24,11 @@ pub fn first<'a>(bytes: &'a [u8]) -> Option<(Part<'a>, &'a [u8])>
     if rest.len() < len {
         return None;
     }
-    Some((Part { tag: *tag, content: &rest[0..len] }, &rest[len..]))
+    Some((
+        Part {
+            tag: *tag,
+            content: &rest[0..len],
+        },
+        &rest[len..],
+    ))
 }

@@ -8,7 +8,9 @@ use std::alloc::Global;
 use std::test::*;
 
 const BASIC: [u8; 13] = [1, 0, 3, 1, 1, 1, 2, 0, 4, 0, 0, 0, 7];
+
 const SERVICE: [u8; 6] = [1, 0, 3, 2, 1, 1];
+
 const COMPOSITE: [u8; 6] = [1, 0, 3, 3, 1, 1];
 
 fn check_both(bytes: &[u8]) -> Result<(), Refusal> {
@@ -51,7 +53,41 @@ fn refuses(heap: Global, head: &[u8], field: &[u8], most: usize) -> Result<(), F
 
 #[test]
 fn example() -> Result<(), Fail> {
-    let sheet = [1, 0, 3, 1, 1, 1, 2, 0, 4, 0, 0, 0, 7, 3, 0, 0, 3, 0, 2, 0, 0, 4, 0, 3, 0, 1, 0, 4, 0, 3, 1, 0, 255];
+    let sheet = [
+        1,
+        0,
+        3,
+        1,
+        1,
+        1,
+        2,
+        0,
+        4,
+        0,
+        0,
+        0,
+        7,
+        3,
+        0,
+        0,
+        3,
+        0,
+        2,
+        0,
+        0,
+        4,
+        0,
+        3,
+        0,
+        1,
+        0,
+        4,
+        0,
+        3,
+        1,
+        0,
+        255,
+    ];
     check_eq(refused_at(&sheet), None)?;
     check_eq(refused_at(&sheet[0..32]), Some(27))?;
     check_eq(refused_at(&BASIC), Some(13))?;

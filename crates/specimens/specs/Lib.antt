@@ -1,2 +1,5 @@
 -- The worked cases. Assumes nothing.
+pub mod CostCases
+pub mod ChartCases
+pub mod NetworkCases
 pub mod Cases

@@ -1,9 +1,25 @@
 // The worked cases as theorems, and the code on the same entries.
-ghost use Rattle.specimens.specs.Cases.{CostCases};
+ghost use Rattle.specimens.specs.Cases.{Cases};
+ghost use Rattle.specimens.specs.ChartCases.{NothingGuarded};
+use costs::measure::Measure;
+use costs::reducer::Reducer;
 
+// Every worked case is what the rules say.
 pub fn cases_hold()
-    ensures costs { λ _. ⌜ CostCases ⌝ }
+    ensures { λ _. ⌜ Cases ⌝ }
 {}
+
+// An event that guards nothing has (0; 0), in every measure and by every reducer.
+pub fn nothing_guarded<M: Measure, R: Reducer<M>>()
+    ensures { λ _. ⌜ NothingGuarded (M·Measure .ops) (M·Measure .meant) (R·Reducer .gives) ⌝ }
+{}
+
+#[cfg(test)]
+mod chart_tests;
+#[cfg(test)]
+mod network_sheets;
+#[cfg(test)]
+mod network_tests;
 
 #[cfg(test)]
 mod tests {

@@ -1,0 +1,6 @@
+-- Proofs of the worked cases. Assumes nothing.
+mod Evaluated
+mod ChartProofs
+mod NetworkForms
+mod NetworkOrder
+mod NetworkCases
