@@ -127,7 +127,7 @@ fn work_card<M: Measure, R: Reducer<M>>(
     }
 }
 
-// Works the card of a basic or a service block, whose numbers all name something and whose amounts are as wide as the measure's, in 3,072 rows lent.
+// Works the card of a basic or a service block, whose numbers all name something and whose amounts are as wide as the measure's, in 2,816 rows lent.
 // It writes the card into the first 128 rows of `out`, the list of event e into rows 16 e and on, with the zero entry past a list, and answers the eight lengths.
 // What the rows lent hold afterwards is free; on a refusal `out` stays.
 pub fn card<M: Measure, R: Reducer<M>>(
@@ -138,7 +138,7 @@ pub fn card<M: Measure, R: Reducer<M>>(
     requires width { ⌜ now sheet .width .bytes ≡ M·Measure .wide ⌝ }
     requires named { ⌜ Named (says (now sheet)) ⌝ }
     requires block { ⌜ (says (now sheet) .face .kind ≡ Composite → ⊥) ⌝ }
-    requires rows { ⌜ 3072 ≤ length (now rows) ⌝ }
+    requires rows { ⌜ 2816 ≤ length (now rows) ⌝ }
     requires out { ⌜ 128 ≤ length (now out) ⌝ }
     ensures answer { λ r. ⌜ Cases r (λ lens. CardBy (M·Measure .ops) (M·Measure .meant) gives (says (now (sheet .entry))) (says (now (sheet .entry)) .face .kind) (made (lists-at (now (out .exit)) lens (says (now (sheet .entry)) .face .inputs) 0))) (RefusedBy (M·Measure .ops) (M·Measure .meant) gives (says (now (sheet .entry))) (says (now (sheet .entry)) .face .kind)) ⌝ }
     ensures rows { λ r. ⌜ Cases r (λ lens. PaddedCard (entry-ops (M·Measure .ops) .zero) (now (out .exit)) lens × (drop 128 (now (out .exit)) ≡ drop 128 (now (out .entry)))) (λ _. now (out .exit) ≡ now (out .entry)) ⌝ }

@@ -172,7 +172,7 @@ fn work_card<M: Measure, R: Reducer<M>, B: Beneath<M>>(
 }
 
 // The same with the tables of lengths and of the order; it answers the lengths of the eight lists.
-fn work_rows<M: Measure, R: Reducer<M>, B: Beneath<M>>(
+pub(crate) fn work_rows<M: Measure, R: Reducer<M>, B: Beneath<M>>(
     net: &Net,
     beneath: &B,
     lists: &mut [Entry<M>],

@@ -5,5 +5,6 @@ mod graph;
 mod lists;
 pub mod naming;
 mod net;
+pub mod parted;
 pub mod refusal;
 mod table;
