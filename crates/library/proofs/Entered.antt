@@ -61,8 +61,8 @@ module _ {M : Type 0} {rules : Rules M} {b : Book M} {shelf : List ℕ} {index :
       subst₂ (λ f c. Fit (network-of s f) c) (sym (faces-are st s)) (sym (cards-are st s))
       (record {
         narrow = λ i _.
-          ⊎-elim (λ lt. st .book .blocks (instance-of s i) lt .form .few-inputs)
-          (λ above. omega (arith, ap (λ (x : Block M). x .sheet .face .inputs) (at-past b (instance-of s i) above))) (cases-lt (instance-of s i) (size b));
+            ⊎-elim (λ lt. st .book .blocks (instance-of s i) lt .form .few-inputs)
+            (λ above. omega (arith, ap (λ (x : Block M). x .sheet .face .inputs) (at-past b (instance-of s i) above))) (cases-lt (instance-of s i) (size b));
         sized = λ i f p. st .book .blocks (instance-of s i) (has-input b (instance-of s i) f (p .1)) .sized f (p .1);
       })
 
@@ -93,10 +93,14 @@ module _ {M : Type 0} (rules : Rules M) (laws : Lawful (rules .ops)) (sound : So
       is-size = counted-is st n (h .counted)
 
       found : EnterFound rules laws sound shelf index cards lent n (h .counted) bs (fine card)
-      found =
-          (framed, (right,
+      found = (
+        framed,
+        (
+          right,
           placing-works rules (blocks-kept n index cards) bs (EnterLacks (sizes-of shelf index cards) lent (kept-end index n) n (length bs)) (h .placed) (h .room) (fine card)
-          (h .kept .worked (fit-any st n (sheet-of (rules .wide) bs)))))
+              (h .kept .worked (fit-any st n (sheet-of (rules .wide) bs))),
+        ),
+      )
 
       goes : (d : Book M) × (Step rules (sizes-of shelf index cards) b (enter bs) lent (entered n) d × (Stands rules d shelf′ index′ cards′ × Sound rules d index′ cards′))
       goes = enter-done rules laws sound shelf index cards lent n (h .counted) bs card found (h .kept .sized) shelf′ index′ cards′ (h .kept .shelf-is) (h .kept .index-is) (h .kept .cards-is) b st
@@ -185,7 +189,7 @@ module _ {M : Type 0} (rules : Rules M) (s : Sheet) (bs : List ℕ) (is : s ≡ 
         sized = subst (λ (x : Sheet). (e : ℕ) → e < x .face .inputs → Sized (list-at rows lens e)) is (in′ .sized);
         shelf-is = es;
         index-is =
-          ei ∙ ap (λ (x : Interface). set index n (record { used = true; start = at; len = length bs; inputs = x .inputs; outputs = x .outputs; lens = lens; old = false })) (f ∙ ap (λ (x : Sheet). x .face) is)
-          ∙ ap (λ l. set index n (record { used = true; start = at; len = length bs; inputs = sheet-of (rules .wide) bs .face .inputs; outputs = sheet-of (rules .wide) bs .face .outputs; lens = l; old = false })) (in′ .lengths);
+            ei ∙ ap (λ (x : Interface). set index n (record { used = true; start = at; len = length bs; inputs = x .inputs; outputs = x .outputs; lens = lens; old = false })) (f ∙ ap (λ (x : Sheet). x .face) is)
+            ∙ ap (λ l. set index n (record { used = true; start = at; len = length bs; inputs = sheet-of (rules .wide) bs .face .inputs; outputs = sheet-of (rules .wide) bs .face .outputs; lens = l; old = false })) (in′ .lengths);
         cards-is = ec ∙ ap (overwritten cards (128 * n)) (in′ .front);
       }

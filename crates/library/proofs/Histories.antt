@@ -58,12 +58,12 @@ module _ {M : Type 0} where
       let rest : take k (drop t out′) ≡ take k (drop t out) = sym (drop-take t k out′) ∙ ap (drop t) same ∙ drop-take t k out in
       ap (λ n. replied a (take (taken n c) out′) ∷ replies cs more (drop (taken n c) out′)) long
       ∙ ap₂ (λ x y. replied a x ∷ y) front
-        (replies-same cs more (drop t out) (drop t out′) (length-drop t out′ ∙ ap (λ n. n - t) long ∙ sym len)
-          (subst (λ n. take (cursor n cs) (drop t out′) ≡ take (cursor n cs) (drop t out)) (sym len) rest))
+      (replies-same cs more (drop t out) (drop t out′) (length-drop t out′ ∙ ap (λ n. n - t) long ∙ sym len)
+      (subst (λ n. take (cursor n cs) (drop t out′) ≡ take (cursor n cs) (drop t out)) (sym len) rest))
 
   replies-push : (calls : List Call) (answers : List Answer) (call : Call) (answer : Answer) (out : List (Entry M)) → length calls ≡ length answers
       → replies (calls ++ (call ∷ [])) (answers ++ (answer ∷ [])) out
-        ≡ replies calls answers out ++ (replied answer (take (taken (length out - cursor (length out) calls) call) (drop (cursor (length out) calls) out)) ∷ [])
+      ≡ replies calls answers out ++ (replied answer (take (taken (length out - cursor (length out) calls) call) (drop (cursor (length out) calls) out)) ∷ [])
   replies-push [] [] call answer out e = let z : length out ≡ length out - 0 = omega arith in ap (λ n. replied answer (take (taken n call) out) ∷ []) z
   replies-push [] (a ∷ more) call answer out e = absurd (omega arith)
   replies-push (c ∷ cs) [] call answer out e = absurd (omega arith)
@@ -83,7 +83,7 @@ module _ {M : Type 0} where
       → i < length calls → i < length answers → call ≡ getD calls i call → length out′ ≡ length out → take (cursor (length out) (take i calls)) out′ ≡ take (cursor (length out) (take i calls)) out
       → History rules sizes (asks rows (length out) (take i calls)) (replies (take i calls) (take i answers) out) b
       → Step rules sizes b (asked call) (lent-to rows (length out - cursor (length out) (take i calls)) call)
-        (replied r (take (taken (length out - cursor (length out) (take i calls)) call) (drop (cursor (length out) (take i calls)) out′))) e
+      (replied r (take (taken (length out - cursor (length out) (take i calls)) call) (drop (cursor (length out) (take i calls)) out′))) e
       → History rules sizes (asks rows (length out) (take (i + 1) calls)) (replies (take (i + 1) calls) (take (i + 1) (set answers i r)) out′) e
   history-more rules sizes rows calls answers i call r out out′ b e lc la is long same hist step =
       let cs = take i calls in
@@ -92,6 +92,6 @@ module _ {M : Type 0} where
       let even : length cs ≡ length (take i answers) = length-take-le i calls (omega arith) ∙ sym (length-take-le i answers (omega arith)) in
       let k = cursor (length out) cs in
       let wrote : replies (cs ++ (call ∷ [])) (take i answers ++ (r ∷ [])) out′ ≡ replies cs (take i answers) out ++ (replied r (take (taken (length out - k) call) (drop k out′)) ∷ []) =
-          replies-push cs (take i answers) call r out′ even ∙ ap (λ n. replies cs (take i answers) out′ ++ (replied r (take (taken (n - cursor n cs) call) (drop (cursor n cs) out′)) ∷ [])) long
-          ∙ ap (λ l. l ++ (replied r (take (taken (length out - k) call) (drop k out′)) ∷ [])) (replies-same cs (take i answers) out out′ long same) in
+      replies-push cs (take i answers) call r out′ even ∙ ap (λ n. replies cs (take i answers) out′ ++ (replied r (take (taken (n - cursor n cs) call) (drop (cursor n cs) out′)) ∷ [])) long
+      ∙ ap (λ l. l ++ (replied r (take (taken (length out - k) call) (drop k out′)) ∷ [])) (replies-same cs (take i answers) out out′ long same) in
       subst₂ (λ x y. History rules sizes x y e) (sym (ap (asks rows (length out)) more ∙ asks-push rows (length out) cs call)) (sym (ap₂ (λ x y. replies x y out′) more said ∙ wrote)) (later _ _ hist step)

@@ -77,7 +77,7 @@ module _ {M : Type 0} (rules : Rules M) (laws : Lawful (rules .ops)) (sound : So
       PreviewCase w r =
           Cases r (Previewed rules (blocks-kept 0 index cards) (sheet-of w bs) lent before out)
           (λ e. Fit (network (blocks-kept 0 index cards) (sheet-of w bs)) (cards-beneath (blocks-kept 0 index cards) (sheet-of w bs))
-            → Then (FirstAt 7 (PreviewLacks lent)) (Never (PreviewLacks lent)) (Working rules (blocks-kept 0 index cards) (sheet-of w bs)) (turned (told e)))
+          → Then (FirstAt 7 (PreviewLacks lent)) (Never (PreviewLacks lent)) (Working rules (blocks-kept 0 index cards) (sheet-of w bs)) (turned (told e)))
 
       placed-at : (r : Result (List ℕ) Refusal) → Right (rules .wide) bs → Placeable v (sheet-of (rules .wide) bs) → PreviewCase (rules .wide) r
           → (b : Book M) → Stands rules b shelf index cards → Previewing rules b lent (rules .wide) bs (verdict (list-at out) r)

@@ -59,11 +59,11 @@ module _ {M : Type 0} {rules : Rules M} {sizes : Sizes} {rows : ℕ} {calls : Li
       let at-is : at ≡ cursor (length out) (take i calls) = was .cursor-is ∙ ap (λ l. cursor l (take i calls)) (sym long) in
       let left-is : length left ≡ length out - cursor (length out) (take i calls) = lenl ∙ ap (λ a. length out - a) at-is in
       let hist : History rules sizes (asks rows (length out) (take i calls)) (replies (take i calls) (take i answers) out) (was .book) =
-          subst (λ l. History rules sizes (asks rows l (take i calls)) (replies (take i calls) (take i answers) out) (was .book)) (sym long) (was .history) in
+      subst (λ l. History rules sizes (asks rows l (take i calls)) (replies (take i calls) (take i answers) out) (was .book)) (sym long) (was .history) in
       let step : Step rules sizes (was .book) (asked call) (lent-to rows (length left) call) (replied answer (take n left′)) (next .0) =
-          subst (λ z. Step rules z (was .book) (asked call) (lent-to rows (length left) call) (replied answer (take n left′)) (next .0)) sized (next .1 .0) in
+      subst (λ z. Step rules z (was .book) (asked call) (lent-to rows (length left) call) (replied answer (take n left′)) (next .0)) sized (next .1 .0) in
       let step′ : Step rules sizes (was .book) (asked call) (lent-to rows (length left) call) (replied answer (take n (drop (cursor (length out) (take i calls)) out′))) (next .0) =
-          subst (λ z. Step rules sizes (was .book) (asked call) (lent-to rows (length left) call) (replied answer (take n z)) (next .0)) (sym (ap (λ a. drop a out′) (sym at-is) ∙ back)) step in
+      subst (λ z. Step rules sizes (was .book) (asked call) (lent-to rows (length left) call) (replied answer (take n z)) (next .0)) (sym (ap (λ a. drop a out′) (sym at-is) ∙ back)) step in
       let step″ = subst (λ l. Step rules sizes (was .book) (asked call) (lent-to rows l call) (replied answer (take (taken l call) (drop (cursor (length out) (take i calls)) out′))) (next .0)) left-is step′ in
       let more = history-more rules sizes rows calls answers i call answer out out′ (was .book) (next .0) ltc lta is leno (subst (λ a. take a out′ ≡ take a out) at-is front) hist step″ in
       record {
@@ -84,9 +84,9 @@ module _ {M : Type 0} {rules : Rules M} {sizes : Sizes} {rows : ℕ} {calls : Li
       → i < length calls → i < length answers → length out ≡ length out₀ → sizes-of shelf index cards ≡ sizes → rows′ ≡ rows
       → n ≡ taken (length out - at) (getD calls i d) → length left′ ≡ length (take (length out - at) (drop at out))
       → ((b : Book M) → Stands rules b shelf index cards
-        → drop (taken (length (take (length out - at) (drop at out))) (getD calls i d)) left′ ≡ drop (taken (length (take (length out - at) (drop at out))) (getD calls i d)) (take (length out - at) (drop at out)))
+      → drop (taken (length (take (length out - at) (drop at out))) (getD calls i d)) left′ ≡ drop (taken (length (take (length out - at) (drop at out))) (getD calls i d)) (take (length out - at) (drop at out)))
       → GoesOn rules (asked (getD calls i d)) (lent-to rows′ (length (take (length out - at) (drop at out))) (getD calls i d))
-        (replied answer (take (taken (length (take (length out - at) (drop at out))) (getD calls i d)) left′)) shelf index cards shelf′ index′ cards′
+      (replied answer (take (taken (length (take (length out - at) (drop at out))) (getD calls i d)) left′)) shelf index cards shelf′ index′ cards′
       → Replayed rules sizes rows calls answers₀ out₀ (i + 1) (at + n) (set answers i answer) (take at out ++ (left′ ++ drop (length out - at) (drop at out))) shelf′ index′ cards′
   replayed-next {i} {at} {answers} {out} {shelf} {index} {cards} d rows′ n left′ answer shelf′ index′ cards′ was ltc lta long sized lends is same after goes =
       let none : drop (length out - at) (drop at out) ≡ [] = drop-all (length out - at) (drop at out) (omega (arith, length-drop at out)) in
@@ -96,9 +96,9 @@ module _ {M : Type 0} {rules : Rules M} {sizes : Sizes} {rows : ℕ} {calls : Li
       let n-is : at + taken (length (take (length out - at) (drop at out))) (getD calls i d) ≡ at + n = ap (λ l. at + l) (ap (λ l. taken l (getD calls i d)) size ∙ sym is) in
       subst (λ k. Replayed rules sizes rows calls answers₀ out₀ (i + 1) k (set answers i answer) (take at out ++ (left′ ++ drop (length out - at) (drop at out))) shelf′ index′ cards′) n-is
       (replayed-more (take (length out - at) (drop at out)) left′ (take at out ++ (left′ ++ drop (length out - at) (drop at out))) (getD calls i d) answer shelf′ index′ cards′ was ltc lta
-        (getD-default calls i d (getD calls i d) ltc) long sized left-is same end after
-        (subst (λ l. GoesOn rules (asked (getD calls i d)) (lent-to l (length (take (length out - at) (drop at out))) (getD calls i d))
-          (replied answer (take (taken (length (take (length out - at) (drop at out))) (getD calls i d)) left′)) shelf index cards shelf′ index′ cards′) lends goes))
+      (getD-default calls i d (getD calls i d) ltc) long sized left-is same end after
+      (subst (λ l. GoesOn rules (asked (getD calls i d)) (lent-to l (length (take (length out - at) (drop at out))) (getD calls i d))
+      (replied answer (take (taken (length (take (length out - at) (drop at out))) (getD calls i d)) left′)) shelf index cards shelf′ index′ cards′) lends goes))
 
 pub same-sizes : {a b c a′ b′ c′ : ℕ} → a ≡ a′ → b ≡ b′ → c ≡ c′ → _≡_ {A = Sizes} (record { shelf = a; index = b; cards = c }) (record { shelf = a′; index = b′; cards = c′ })
 same-sizes {c = c} {a′ = a′} {b′ = b′} p q r = ap₂ (λ x y. record { shelf = x; index = y; cards = c }) p q ∙ ap (λ z. record { shelf = a′; index = b′; cards = z }) r

@@ -53,8 +53,8 @@ redone-from rules v s n index cards index′ cards′ rows lens row in′ worked
       worked = worked;
       sized = in′ .sized;
       index-is =
-        ei ∙ ap (λ (r : Row). set index n (record { used = r .used; start = r .start; len = r .len; inputs = r .inputs; outputs = r .outputs; lens = lens; old = false })) is
-        ∙ ap (λ l. set index n (record { used = row-at index n .used; start = row-at index n .start; len = row-at index n .len; inputs = row-at index n .inputs; outputs = row-at index n .outputs; lens = l; old = false })) (in′ .lengths);
+          ei ∙ ap (λ (r : Row). set index n (record { used = r .used; start = r .start; len = r .len; inputs = r .inputs; outputs = r .outputs; lens = lens; old = false })) is
+          ∙ ap (λ l. set index n (record { used = row-at index n .used; start = row-at index n .start; len = row-at index n .len; inputs = row-at index n .inputs; outputs = row-at index n .outputs; lens = l; old = false })) (in′ .lengths);
       cards-is = ec ∙ ap (overwritten cards (128 * n)) (in′ .front);
     }
 
@@ -78,7 +78,7 @@ module _ {M : Type 0} (rules : Rules M) (s : Sheet) (index : List Row) (cards : 
     module _ (rows : 3072 ≤ lent .rows) (n : ℕ) (index′ : List Row) (cards′ : List (Entry M)) where
       pub renew-done : (r : Result Unit Refusal)
           → Cases r (λ _. Redone rules (blocks-kept 0 index cards) s n index cards index′ cards′)
-            (λ e. Fit (network (blocks-kept 0 index cards) s) (cards-beneath (blocks-kept 0 index cards) s) → Working rules (blocks-kept 0 index cards) s (turned (told e)))
+          (λ e. Fit (network (blocks-kept 0 index cards) s) (cards-beneath (blocks-kept 0 index cards) s) → Working rules (blocks-kept 0 index cards) s (turned (told e)))
           → Cases r (λ _. Renewed rules s count index cards lent n index′ cards′) (λ e. Regular rules s count index cards lent n → Renewing rules (blocks-kept count index cards) s lent (turned (told e)))
       renew-done (Ok u) h =
           record { card = h .card; renewing = λ reg. (none-behind, (rows, h .worked (reg .fit))); sized = h .sized; index-is = h .index-is; cards-is = h .cards-is }
@@ -148,7 +148,7 @@ module _ {M : Type 0} (rules : Rules M) (laws : Lawful (rules .ops)) (sound : So
                 let z = entry-ops (rules .ops) .zero in
                 let row-here : row-at index′ n ≡ row = ap (λ i. row-at i n) (h .index-is) ∙ getD-set-same index n row no-row (omega (arith, low, st .index-has .room)) in
                 let rows-here : take 128 (drop (128 * n) cards′) ≡ card-rows z (h .card) =
-                    ap (λ c. take 128 (drop (128 * n) c)) (h .cards-is) ∙ part-written cards (128 * n) (card-rows z (h .card)) (omega (arith, low, st .cards-have .room)) 128 (sym (length-card-rows z (h .card))) in
+                ap (λ c. take 128 (drop (128 * n) c)) (h .cards-is) ∙ part-written cards (128 * n) (card-rows z (h .card)) (omega (arith, low, st .cards-have .room)) 128 (sym (length-card-rows z (h .card))) in
                 off-card z (h .card) (kept-sheet .face .inputs) (form-of (rules .wide) (kept-bytes shelf (row-at index n)) (right-kept st n low) .few-inputs) (h .sized) (h .renewing regular .1 .1 .none)
                 (drop (128 * n) cards′) (row-at index′ n .lens) (ap (λ (r : Row). r .lens) row-here) rows-here
 

@@ -65,7 +65,15 @@ fn shown(r: Result<usize, Refusal>) -> Answer
 }
 
 // Opens a sheet's bytes, checks them at the width and previews the sheet; what stops it first is answered.
-fn open_preview<M: Measure, R: Reducer<M>>(shelf: &[u8], index: &[Row], cards: &[Entry<M>], rows: &mut [Entry<M>], sheet: &[u8], width: Width, out: &mut [Entry<M>]) -> Result<[usize; 8], Refusal>
+fn open_preview<M: Measure, R: Reducer<M>>(
+    shelf: &[u8],
+    index: &[Row],
+    cards: &[Entry<M>],
+    rows: &mut [Entry<M>],
+    sheet: &[u8],
+    width: Width,
+    out: &mut [Entry<M>],
+) -> Result<[usize; 8], Refusal>
     ensures same { λ r. ⌜ (isOk r ≡ false → now (out .exit) ≡ now (out .entry)) ⌝ }
     ensures book { λ r. ⌜ GoesOn (rules (M·Measure .ops) (M·Measure .wide) (M·Measure .meant) (R·Reducer .gives)) (ask-preview (width .bytes) (now (sheet .entry))) (record { rows = length (now (rows .entry)); out = length (now (out .entry)) }) (reply (λ lens. previewed-card (list-at (now (out .exit)) lens)) r) (now (shelf .entry)) (now (index .entry)) (now (cards .entry)) (now (shelf .entry)) (now (index .entry)) (now (cards .entry)) ⌝ }
 {
@@ -92,7 +100,14 @@ pub(crate) fn taken(call: &Call<'_>, left: usize) -> usize
 }
 
 // Makes one call, which is lent what it says of the working rows and of the caller's rows that are left, as far as there are so many, and of these no more than its lists take.
-pub(crate) fn apply<M: Measure, R: Reducer<M>>(shelf: &mut [u8], index: &mut [Row], cards: &mut [Entry<M>], rows: &mut [Entry<M>], left: &mut [Entry<M>], call: &Call<'_>) -> Answer
+pub(crate) fn apply<M: Measure, R: Reducer<M>>(
+    shelf: &mut [u8],
+    index: &mut [Row],
+    cards: &mut [Entry<M>],
+    rows: &mut [Entry<M>],
+    left: &mut [Entry<M>],
+    call: &Call<'_>,
+) -> Answer
     ensures rest { λ r. ⌜ ((b : Book M) → Stands (rules (M·Measure .ops) (M·Measure .wide) (M·Measure .meant) (R·Reducer .gives)) b (now (shelf .entry)) (now (index .entry)) (now (cards .entry)) → drop (taken-of (length (now (left .entry))) (now (call .entry))) (now (left .exit)) ≡ drop (taken-of (length (now (left .entry))) (now (call .entry))) (now (left .entry))) ⌝ }
     ensures book { λ r. ⌜ GoesOn (rules (M·Measure .ops) (M·Measure .wide) (M·Measure .meant) (R·Reducer .gives)) (asked (now (call .entry))) (lent-to (length (now (rows .entry))) (length (now (left .entry))) (now (call .entry))) (replied r (take (taken-of (length (now (left .entry))) (now (call .entry))) (now (left .exit)))) (now (shelf .entry)) (now (index .entry)) (now (cards .entry)) (now (shelf .exit)) (now (index .exit)) (now (cards .exit)) ⌝ }
 {
@@ -101,12 +116,29 @@ pub(crate) fn apply<M: Measure, R: Reducer<M>>(shelf: &mut [u8], index: &mut [Ro
             let n = (*lent).min(rows.len());
             entered(enter::<M, R>(shelf, index, cards, &mut rows[..n], sheet))
         }
-        Call::Preview { sheet, width, rows: lent, out } => {
+        Call::Preview {
+            sheet,
+            width,
+            rows: lent,
+            out,
+        } => {
             let n = (*lent).min(rows.len());
             let m = (*out).min(left.len()).min(128);
-            previewed(open_preview::<M, R>(shelf, index, cards, &mut rows[..n], sheet, width.width(), &mut left[..m]))
+            previewed(open_preview::<M, R>(
+                shelf,
+                index,
+                cards,
+                &mut rows[..n],
+                sheet,
+                width.width(),
+                &mut left[..m],
+            ))
         }
-        Call::Retime { block, algorithm, amount } => done(retime::<M, R>(shelf, index, *block, *algorithm, amount)),
+        Call::Retime {
+            block,
+            algorithm,
+            amount,
+        } => done(retime::<M, R>(shelf, index, *block, *algorithm, amount)),
         Call::Rework { block, rows: lent } => {
             let n = (*lent).min(rows.len());
             done(rework::<M, R>(shelf, index, cards, &mut rows[..n], *block))

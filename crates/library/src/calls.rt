@@ -38,14 +38,33 @@ impl Wide {
 // One call: what it hands over, and how many of the working rows and of the caller's rows it is lent.
 #[derive(Clone, Copy)]
 pub enum Call<'a> {
-    Enter { sheet: &'a [u8], rows: usize },
+    Enter {
+        sheet: &'a [u8],
+        rows: usize,
+    },
     // a sheet's bytes, opened and checked at that width
-    Preview { sheet: &'a [u8], width: Wide, rows: usize, out: usize },
+    Preview {
+        sheet: &'a [u8],
+        width: Wide,
+        rows: usize,
+        out: usize,
+    },
     // another amount for an algorithm of a block
-    Retime { block: usize, algorithm: usize, amount: &'a [u8] },
-    Rework { block: usize, rows: usize },
+    Retime {
+        block: usize,
+        algorithm: usize,
+        amount: &'a [u8],
+    },
+    Rework {
+        block: usize,
+        rows: usize,
+    },
     // the list of an event on a block's card
-    Card { block: usize, event: usize, out: usize },
+    Card {
+        block: usize,
+        event: usize,
+        out: usize,
+    },
 }
 
 // What a call answers; the lists of a preview and of a card stand in the caller's rows.

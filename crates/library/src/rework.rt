@@ -91,7 +91,9 @@ fn renew<M: Measure, R: Reducer<M>>(
         return Err(Refusal::NoRoom { table: Table::Rows });
     }
     if cards.len() < 128 * block + 128 {
-        return Err(Refusal::NoRoom { table: Table::Cards });
+        return Err(Refusal::NoRoom {
+            table: Table::Cards,
+        });
     }
     match check_names(index, cards, sheet) {
         Err(e) => Err(e),

@@ -63,7 +63,7 @@ returns-in-Ok g c =
     let is : w ≡ R .wide = sym (ap (λ (x : Width). x .bytes) (c .width-given .ensures)) ∙ c .if-given-width .left ∙ c .width .ensures in
     let p = c .preview-placed in
     let answer = placed-answer R laws sound (c .args .shelf .now) (c .args .index .now) (c .args .cards .now) lent bs (sheet .framed) (c .count-n .result) (c .count-n .ensures)
-        (c .args .out .now) (p .last .out) (p .result) w is (sheet .right) (c .in-Ok .ensures tt) (p .ensures .found) in
+    (c .args .out .now) (p .last .out) (p .result) w is (sheet .right) (c .in-Ok .ensures tt) (p .ensures .found) in
     record {
       same = p .ensures .same;
       answer = answer;

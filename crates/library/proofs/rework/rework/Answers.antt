@@ -61,7 +61,7 @@ returns-then-not-is-sheet g c =
     let laws = g .M·Measure·met .lawful in
     let sound = g .R·Reducer·met .sound in
     let gone : (b : Book (g .M .Denot)) → Stands R b (c .args .shelf .now) (c .args .index .now) (c .args .cards .now) → ⊥ = λ b st. no-kept R laws sound (c .args .shelf .now) (c .args .index .now) (c .args .cards .now) (lent-of (length (c .args .rows .now)) 0) (c .count-n .result) (c .count-n .ensures) (c .args .block) b st (c .if-block-n .left)
-        (c .row-at .result) (c .row-at .ensures) (c .kept-bytes-bytes .result .now) (c .kept-bytes-bytes .ensures) (c .width .result .bytes) (c .width .ensures) (c .if-not-is-sheet .ensures tt) in
+    (c .row-at .result) (c .row-at .ensures) (c .kept-bytes-bytes .result .now) (c .kept-bytes-bytes .ensures) (c .width .result .bytes) (c .width .ensures) (c .if-not-is-sheet .ensures tt) in
     record {
       same = λ _. (refl, refl);
       answer = λ b st. absurd (gone b st);
@@ -85,8 +85,8 @@ returns g c =
     let lt : block < n = c .if-block-n .left in
     let old : row-at index block .old ≡ true = sym (c .if-not-is-old .ensures tt) in
     let is : says sheet ≡ sheet-of (R .wide) (kept-bytes shelf (row-at index block)) =
-        ap (λ (w : Width). sheet-of (w .bytes) (sheet .bytes .now)) (c .made-sheet-sheet .ensures .width) ∙ ap (λ w. sheet-of w (sheet .bytes .now)) (c .width-2 .ensures)
-        ∙ ap (sheet-of (R .wide)) (c .made-sheet-sheet .ensures .bytes ∙ c .kept-bytes-bytes .ensures ∙ ap (kept-bytes shelf) (c .row-at .ensures)) in
+    ap (λ (w : Width). sheet-of (w .bytes) (sheet .bytes .now)) (c .made-sheet-sheet .ensures .width) ∙ ap (λ w. sheet-of w (sheet .bytes .now)) (c .width-2 .ensures)
+    ∙ ap (sheet-of (R .wide)) (c .made-sheet-sheet .ensures .bytes ∙ c .kept-bytes-bytes .ensures ∙ ap (kept-bytes shelf) (c .row-at .ensures)) in
     let r = c .renew .result in
     let index′ = c .renew .last .index in
     let cards′ = c .renew .last .cards in
