@@ -1,0 +1,3 @@
+-- What follows of the journal's definitions. Assumes nothing.
+pub mod Decoding
+pub mod Telling
