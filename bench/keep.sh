@@ -4,7 +4,7 @@
 set -eu
 cd "$(dirname "$0")/.."
 times=${1:-1000}
-rt check keep_bench >/dev/null
+(cd crates/keep_bench && rt run -- 1 >/dev/null)
 mkdir -p target/bench
 rustc -O bench/keep.rs -o target/bench/keep
 
@@ -15,12 +15,12 @@ nanoseconds() {
     echo $((end - start))
 }
 
-if [ "$(target/bin/keep_bench "$times")" != "$(target/bench/keep "$times")" ]; then
+if [ "$(crates/keep_bench/out/keep_bench "$times")" != "$(target/bench/keep "$times")" ]; then
     echo "the two programs disagree" >&2
     exit 1
 fi
 for _ in 1 2 3 4 5; do
-    echo "proved $(nanoseconds target/bin/keep_bench "$times")"
+    echo "proved $(nanoseconds crates/keep_bench/out/keep_bench "$times")"
     echo "rust $(nanoseconds target/bench/keep "$times")"
 done | awk -v times="$times" '
     !($1 in best) || $2 < best[$1] { best[$1] = $2 }

@@ -7,7 +7,8 @@ A name turns if a file of specs/, or a file of lemmas right in proofs/, declares
 file, in the clauses and `ghost use` items of every .rt file, and in the code spans of comments. Names that Rattle makes (of goals, of
 steps and of what a loop leaves) are not declared there and stay; where one has a Rust name in it, as `add-each-requires` has `add_each`,
 that part gets the Rust name's spelling back, in the proof files of functions alone. Functions, strings, inputs and outputs stay.
-It stops, and writes nothing, where two names would fall together.
+A name that one file gives to an import, as `card as ask-card`, turns within that file.
+It stops, and writes nothing, where two names would fall together. Run again it finds nothing more to turn.
 """
 import collections
 import os
@@ -63,6 +64,16 @@ def imported(texts):
         for m in IMPORT.finditer(text):
             for item in m.group(2).split(","):
                 names.update(word.strip("« »\n") for word in item.split(" as "))
+    return names
+
+
+def aliases(text):
+    """The names with a dash that a file gives to its imports; port.py writes `Taken-of` for `taken-of`."""
+    names = {}
+    for line in text.split("\n"):
+        if re.match(r"(?:ghost )?(?:pub )?use ", line):
+            for name in re.findall(r" as ([A-Za-z]+(?:-[A-Za-z]+)+)(?=[,}])", line):
+                names[name] = name.replace("-", "_").replace("Taken_of", "taken_of")
     return names
 
 
@@ -143,7 +154,7 @@ def main():
     words = sources(texts)
     count = 0
     for path, text in texts.items():
-        new = (antt if path.endswith(".antt") else rust)(text, table)
+        new = (antt if path.endswith(".antt") else rust)(text, {**table, **aliases(text)})
         if MADE.search(path):
             new = made(new, words, foreign)
         if new != text:

@@ -1,5 +1,5 @@
 -- Words that are not said choose ticks and keep. Assumes nothing.
-use Rattle.std.proofs.Common.{◌≡◌, ℕ, Bool, true, false, List, sym, subst}
+use Rattle.std.proofs.Common.{◌≡◌, ℕ, Bool, List, sym, subst}
 use Rattle.card_report.specs.Reports.{Reported}
 
 -- what is printed by these words is printed by those that were said

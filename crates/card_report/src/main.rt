@@ -1,5 +1,7 @@
 // Reads a file of sheets from standard input, enters each into a library, and prints the answers and the cards.
 // The words `memory` and `merge` as arguments choose another measure and another reducer than ticks and keep.
+#![tactic(auto)]
+
 mod run;
 mod words;
 

@@ -1,16 +1,15 @@
 -- Where the reducer selects, each entry of a basic block's lists is a run's. Assumes nothing.
-use Rattle.std.proofs.Common.{◌≡◌, ℕ, zero, suc, ◌+◌, ◌<◌, ◌≤◌, Bool, true, false, ◌⊎◌, List, [], ◌∷◌, ◌++◌, length, get_or, Some, None, sym, refl, ap, ◌∙◌, subst, inl, inr, ⊎_elim}
+use Rattle.std.proofs.Common.{◌≡◌, ℕ, ◌≤◌, ◌⊎◌, List, [], ◌∷◌, sym, ap, ◌∙◌, subst, inl, inr, ⊎_elim}
 use Rattle.std.specs.List.{flat_map}
 use Rattle.costs.specs.Amounts.{Amounts}
 use Rattle.costs.specs.Entries.{entry_ops}
 use Rattle.costs.specs.Lists.{Among, sums, Selects}
-use Rattle.costs.specs.Runs.{Sent, none_sent, both_sent, IsRun, RunOf, AreRuns}
+use Rattle.costs.specs.Runs.{none_sent, both_sent, IsRun, RunOf, AreRuns}
 use Rattle.costs.specs.declared.entry.Entry.{Entry}
 use Rattle.costs.proofs.Interface.{among_all, among_unjoined, among_unsummed, is_run_alone, is_run_both}
 use Rattle.order.specs.Order.{Complete}
 use Rattle.order.proofs.Induction.{by_order}
 use Rattle.sheets.specs.Sheets.{Sheet}
-use Rattle.sheets.specs.declared.words.Transition.{Transition}
 use Rattle.charts.specs.Forming.{list}
 use Rattle.charts.specs.Charts.{state_cost, is_free, is_guarded, frees, guarded, State, Leads, Named, NamedTransition}
 use Rattle.charts.specs.Cards.{StateList, EventList}

@@ -1,12 +1,11 @@
 -- A state's cost and a service entry are those of what a run does there. Assumes nothing.
-use Rattle.std.proofs.Common.{◌≡◌, ℕ, zero, suc, ◌+◌, ◌<◌, ◌≤◌, min, ◌⊎◌, List, [], ◌∷◌, length, get_or, Some, None, Option, sym, refl, ap, ◌∙◌, subst, inl, inr, ⊎_elim, arith}
+use Rattle.std.proofs.Common.{◌≡◌, ℕ, zero, suc, ◌<◌, ◌≤◌, min, List, [], ◌∷◌, get_or, Some, None, Option, refl, inl, inr, ⊎_elim, arith}
 use Rattle.std.specs.List.{AllByRecursion as All}
 use Rattle.std.proofs.ByRecursion.{All-get_or}
 use Rattle.std.proofs.lemmas.Bool.{cases_lt}
 use Rattle.costs.specs.Amounts.{Amounts}
-use Rattle.costs.specs.Entries.{first_counts, entry_ops, count}
+use Rattle.costs.specs.Entries.{first_counts}
 use Rattle.costs.specs.Runs.{Sent, SameCount, IsRun}
-use Rattle.costs.specs.declared.entry.Entry.{Entry}
 use Rattle.costs.proofs.Interface.{is_run_alone, is_run_once, is_run_both}
 use Rattle.sheets.specs.Sheets.{Sheet, Served}
 use Rattle.sheets.specs.declared.words.Action.{Action}

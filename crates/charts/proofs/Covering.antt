@@ -1,16 +1,16 @@
 -- The lists of a basic block cover its runs. Assumes nothing.
-use Rattle.std.proofs.Common.{◌≡◌, ℕ, zero, suc, ◌+◌, ◌*◌, ◌<◌, ◌≤◌, Bool, true, false, ◌⊎◌, List, [], ◌∷◌, ◌++◌, length, get_or, sym, refl, ap, ◌∙◌, subst, inl, inr, ⊎_elim, arith}
+use Rattle.std.proofs.Common.{◌≡◌, ℕ, ◌<◌, ◌≤◌, Bool, List, [], ◌∷◌, length, sym, refl, ap, subst, inl, arith}
 use Rattle.std.specs.List.{flat_map, AllByRecursion as All}
 use Rattle.std.proofs.ByRecursion.{All-weaker}
 use Rattle.costs.specs.Amounts.{Amounts, Lawful}
-use Rattle.costs.specs.Entries.{entry_ops, count}
+use Rattle.costs.specs.Entries.{entry_ops}
 use Rattle.costs.specs.Lists.{Among, Sized, sums, Sound, CoveredBy}
 use Rattle.costs.specs.Runs.{Sent, none_sent, both_sent, CoversRun, CoveredRun, CoversRuns}
 use Rattle.costs.specs.declared.entry.Entry.{Entry}
 use Rattle.costs.proofs.Interface.{entry_lawful, among_all, among_joined, length_sums, one_among, some_among, covered_itself, covered_sums, covered_reduced, covered_run, covers_run_as, covers_run_zero, covers_run_both, is_run_covered}
 use Rattle.sheets.specs.Sheets.{Sheet}
 use Rattle.sheets.specs.declared.words.Transition.{Transition}
-use Rattle.charts.specs.Forming.{list, Reduces}
+use Rattle.charts.specs.Forming.{list}
 use Rattle.charts.specs.Charts.{state_cost, is_free, is_guarded, dests, frees, guarded, State, Named, NamedTransition}
 use Rattle.charts.specs.Cards.{StateList, EventList}
 use Rattle.charts.specs.Runs.{entered_cost, entered_sends, StateRun, stop, go, BasicRun, ignore, follow}

@@ -1,5 +1,5 @@
 -- Where the reducer computes a function, forming comes to what the plain function says. Assumes nothing.
-use Rattle.std.proofs.Common.{◌≡◌, ℕ, zero, suc, ◌+◌, ◌<◌, ◌≤◌, true, false, cond, leb, ◌⊎◌, List, [], ◌∷◌, ◌++◌, length, sym, refl, ap, ◌∙◌, subst, inl, inr, ⊎_elim, arith}
+use Rattle.std.proofs.Common.{◌≡◌, ℕ, zero, suc, ◌+◌, ◌<◌, ◌≤◌, leb, List, [], ◌∷◌, ◌++◌, length, sym, ap, ◌∙◌, subst, inl, inr}
 use Rattle.std.specs.List.{flat_map}
 use Rattle.std.proofs.lemmas.Bool.{cond-true, cond-false, le-leb, lt-leb}
 use Rattle.costs.specs.Amounts.{Amounts}
@@ -7,7 +7,7 @@ use Rattle.costs.specs.Entries.{entry_ops}
 use Rattle.costs.specs.Lists.{sums, Computes}
 use Rattle.costs.specs.declared.entry.Entry.{Entry}
 use Rattle.sheets.specs.Sheets.{Sheet}
-use Rattle.charts.specs.Forming.{Formation, list, long, Is, Reduces, Outcome, made, stops, After}
+use Rattle.charts.specs.Forming.{Formation, list, long, Reduces, Outcome, made, stops, After}
 use Rattle.charts.specs.Charts.{state_cost, frees, guarded, served_entries}
 use Rattle.charts.specs.Cards.{put, no_lists, StateList, EventList, Events, States, BasicCard, ServiceCard}
 use Rattle.charts.specs.Evaluation.{reduced, after, events_by, state_list, event_list, states_by, basic_card, service_card}

@@ -1,7 +1,7 @@
 -- What is shown of a card, by its kind. Assumes nothing.
-use Rattle.std.proofs.Common.{◌≡◌, ℕ, ◌+◌, ◌<◌, ◌≤◌, ◌⊎◌, List, [], ◌∷◌, length, get_or, sym, refl, ap, ◌∙◌, subst, inl, inr, arith}
+use Rattle.std.proofs.Common.{◌≡◌, ℕ, ◌<◌, List, [], get_or, refl, subst, arith}
 use Rattle.costs.specs.Amounts.{Amounts, Lawful}
-use Rattle.costs.specs.Lists.{Sized, Sound, Selects, Computes}
+use Rattle.costs.specs.Lists.{Sound, Selects, Computes}
 use Rattle.costs.specs.Runs.{CoversRuns, AreRuns}
 use Rattle.costs.specs.declared.entry.Entry.{Entry}
 use Rattle.order.specs.Order.{Complete}
@@ -13,13 +13,13 @@ use Rattle.charts.specs.Forming.{Outcome, made, stops, list, Reduces}
 use Rattle.charts.specs.Charts.{guarded, served_entries, State, Leads, Named}
 use Rattle.charts.specs.Cards.{EventList, Events, BasicCard, ServiceCard}
 use Rattle.charts.specs.Runs.{RunBy}
-use Rattle.charts.specs.Theorems.{Whole, Covers, Attains, ExactBy, ExactRefusal}
+use Rattle.charts.specs.Theorems.{Whole, ExactBy, ExactRefusal}
 use Rattle.charts.specs.Refusals.{CardBy, RefusedBy}
 use Rattle.charts.specs.declared.refusal.Refusal.{Refusal}
 use Rattle.charts.specs.declared.refusal.Refusal.TheVariants.{Unnamed, Circle, TooLong}
 use Rattle.order.proofs.Induction.{complete_one}
 use Rattle.charts.proofs.Evaluating.{basic_is, service_is}
-use Rattle.charts.proofs.Tables.{Formed, table_of, Listed, events_listed}
+use Rattle.charts.proofs.Tables.{table_of, events_listed}
 use Rattle.charts.proofs.Covering.{event_sized, event_covers}
 use Rattle.charts.proofs.Attaining.{event_attains}
 use Rattle.charts.proofs.Serving.{service_sized, service_covers, service_attains}

@@ -1,8 +1,7 @@
 -- The lists of a service block cover its runs and, by a reducer that selects, are attained. Assumes nothing.
-use Rattle.std.proofs.Common.{◌≡◌, ℕ, zero, suc, ◌+◌, ◌<◌, ◌≤◌, Bool, true, false, cond, eqb, ◌⊎◌, List, [], ◌∷◌, ◌++◌, length, get_or, sym, refl, ap, ◌∙◌, subst, inl, inr, ⊎_elim, arith}
+use Rattle.std.proofs.Common.{◌≡◌, ℕ, ◌≤◌, eqb, List, [], ◌∷◌, length, get_or, sym, refl, ap, ◌∙◌, subst, inl, inr, ⊎_elim, arith}
 use Rattle.std.proofs.lemmas.Bool.{cond-true, cond-false, cases_Bool, cond_both, eqb-true, eq-eqb}
 use Rattle.costs.specs.Amounts.{Amounts, Lawful}
-use Rattle.costs.specs.Entries.{entry_ops}
 use Rattle.costs.specs.Lists.{Among, Sized, Sound, Selects}
 use Rattle.costs.specs.Runs.{Sent, SameCount, IsRun, CoversRuns, AreRuns}
 use Rattle.costs.specs.declared.entry.Entry.{Entry}

@@ -1,9 +1,9 @@
 -- What the states' lists, formed in working order, are over the table that they end in. Assumes nothing.
-use Rattle.std.proofs.Common.{◌≡◌, ℕ, zero, suc, ◌+◌, ◌*◌, ◌<◌, ◌≤◌, cond, eqb, ◌⊎◌, List, [], ◌∷◌, ◌++◌, length, get_or, take, sym, refl, ap, ◌∙◌, subst, inl, inr, ⊎_elim, append_assoc, arith}
+use Rattle.std.proofs.Common.{◌≡◌, ℕ, zero, suc, ◌+◌, ◌<◌, ◌≤◌, eqb, List, [], ◌∷◌, ◌++◌, length, get_or, take, sym, refl, ap, ◌∙◌, subst, inl, ⊎_elim, append_assoc, arith}
 use Rattle.std.specs.List.{ContainsAt as Has, flat_map, AllByRecursion as All}
-use Rattle.std.proofs.ByRecursion.{has_append_left, has_push, has_push_cases}
+use Rattle.std.proofs.ByRecursion.{has_append_left, has_push_cases}
 use Rattle.std.proofs.lemmas.List.{length-append, length_push, take_at, get_or_at, get_or_push, get_or_append_left}
-use Rattle.std.proofs.lemmas.Bool.{cond-true, cond-false, eq-eqb, ne_eqb, cases_eq, cases_lt}
+use Rattle.std.proofs.lemmas.Bool.{cond-true, cond-false, eq-eqb, ne_eqb, cases_eq}
 use Rattle.costs.specs.Amounts.{Amounts}
 use Rattle.costs.specs.Entries.{entry_ops}
 use Rattle.costs.specs.Lists.{Among, Sized, sums, Sound}
@@ -11,7 +11,7 @@ use Rattle.costs.specs.declared.entry.Entry.{Entry}
 use Rattle.costs.proofs.Interface.{length_sums, some_among, among_joined, one_among, all_among}
 use Rattle.order.specs.Order.{Next, Order, Complete, Ready}
 use Rattle.sheets.specs.Sheets.{Sheet}
-use Rattle.charts.specs.Forming.{Formation, list, long, Is, Reduces, Outcome, made, stops, After}
+use Rattle.charts.specs.Forming.{Formation, list, Reduces, Outcome, made}
 use Rattle.charts.specs.Charts.{state_cost, is_free, frees, State, Leads}
 use Rattle.charts.specs.Cards.{put, no_lists, StateList, Events, States}
 use Rattle.charts.proofs.Dests.{few_dests, long_joined, joined_same}

@@ -1,17 +1,16 @@
 -- One state, or one event, more in the rows. Assumes nothing.
-use Rattle.std.proofs.Common.{◌≡◌, ℕ, zero, suc, ◌+◌, ◌-◌, ◌*◌, ◌<◌, ◌≤◌, ◌⊎◌, List, [], ◌∷◌, ◌++◌, length, get_or, take, drop, sym, refl, ap, ◌∙◌, subst, inl, inr, ⊎_elim, arith}
-use Rattle.std.specs.List.{ContainsAt as Has}
+use Rattle.std.proofs.Common.{◌≡◌, ℕ, zero, suc, ◌+◌, ◌-◌, ◌*◌, ◌<◌, ◌≤◌, List, [], ◌∷◌, ◌++◌, length, get_or, take, drop, sym, refl, ap, ◌∙◌, subst, inl, inr, ⊎_elim, arith}
 use Rattle.std.proofs.ByRecursion.{has_push_cases}
 use Rattle.std.proofs.lemmas.Bool.{cases_eq}
 use Rattle.costs.specs.Amounts.{Amounts}
 use Rattle.costs.specs.declared.entry.Entry.{Entry}
 use Rattle.sheets.specs.Sheets.{Sheet}
-use Rattle.sheets.specs.declared.words.Kind.TheVariants.{Basic, Service, Composite}
-use Rattle.charts.specs.Forming.{Formation, list, long, Reduces, Outcome, made, stops, After}
-use Rattle.charts.specs.Charts.{state_cost, frees, guarded}
+use Rattle.sheets.specs.declared.words.Kind.TheVariants.{Basic}
+use Rattle.charts.specs.Forming.{Formation, list, long, Reduces, Outcome, made, stops}
+use Rattle.charts.specs.Charts.{state_cost, frees}
 use Rattle.charts.specs.Cards.{put, no_lists, StateList, EventList, EventBy, Events, States, BasicCard}
 use Rattle.charts.specs.Refusals.{list_at, lists_at}
-use Rattle.charts.specs.Rows.{Lent, Stored, Padded, Working, Listing}
+use Rattle.charts.specs.Rows.{Stored, Working, Listing}
 use Rattle.charts.proofs.Dests.{joined_same}
 use Rattle.charts.proofs.Steps.{after_on}
 use Rattle.charts.proofs.Segments.{lists_more, lists_same}

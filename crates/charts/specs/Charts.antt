@@ -1,5 +1,5 @@
 -- What the sheet of a basic or a service block says: costs of states, where transitions lead, entries of events, and which numbers name something. Assumes nothing.
-use Rattle.std.specs.Prelude.{◌≡◌, ℕ, ◌<◌, Bool, true, false, cond, ◌&&◌, List, [], ◌∷◌, length, Some, None, Option, ◌==◌, slice_index_or}
+use Rattle.std.specs.Prelude.{ℕ, ◌<◌, Bool, true, false, cond, ◌&&◌, List, [], ◌∷◌, length, Some, None, Option, ◌==◌, slice_index_or}
 use Rattle.std.specs.List.{AllByRecursion as All}
 use Rattle.costs.specs.Amounts.{Amounts}
 use Rattle.costs.specs.Entries.{counts_of, no_counts, one_count, entry_ops}

@@ -1,5 +1,5 @@
 -- What forming a list, and then a card, comes to: lists of at most 16 entries, or a stop at the first that is longer. Assumes nothing.
-use Rattle.std.specs.Prelude.{◌≡◌, ℕ, ◌<◌, ◌≤◌, ◌⊎◌, List, [], ◌∷◌, length}
+use Rattle.std.specs.Prelude.{◌≡◌, ℕ, ◌<◌, ◌≤◌, ◌⊎◌, List, length}
 
 -- what forming one list comes to: the list, or a stop at a reduced list above 16
 pub data Formation (X : Type 0) : Type 0 where

@@ -1,5 +1,5 @@
 -- What the check of names answers: accepted where every number names something, else the first field that has one that does not. Assumes nothing.
-use Rattle.std.specs.Prelude.{◌≡◌, ℕ, ◌+◌, ◌<◌, List, [], length, take, Some, Ok, Err, Result}
+use Rattle.std.specs.Prelude.{◌≡◌, ℕ, ◌+◌, ◌<◌, List, length, take, Some, Ok, Err, Result}
 use Rattle.std.specs.List.{slice_get, AllByRecursion as All}
 use Rattle.sheets.specs.Sheets.{Sheet, sheet_of, offsets_of}
 use Rattle.sheets.specs.declared.opened.Checked.{Checked}

@@ -1,5 +1,5 @@
 -- Refusals by number, level and place, and what the working of a sheet answers. Assumes nothing.
-use Rattle.std.specs.Prelude.{◌≡◌, ℕ, zero, suc, ◌+◌, ◌*◌, List, [], ◌∷◌, take, drop, Ok, Err, Result, slice_index}
+use Rattle.std.specs.Prelude.{ℕ, zero, suc, ◌+◌, ◌*◌, List, [], ◌∷◌, take, drop, slice_index}
 use Rattle.costs.specs.Amounts.{Amounts}
 use Rattle.costs.specs.declared.entry.Entry.{Entry}
 use Rattle.order.specs.Order.{Complete, Unworkable}
@@ -7,7 +7,7 @@ use Rattle.order.specs.Ways.{Endless}
 use Rattle.sheets.specs.Sheets.{Sheet}
 use Rattle.sheets.specs.declared.words.Kind.{Kind}
 use Rattle.sheets.specs.declared.words.Kind.TheVariants.{Basic, Service, Composite}
-use Rattle.charts.specs.Forming.{Outcome, made, stops}
+use Rattle.charts.specs.Forming.{Outcome, stops}
 use Rattle.charts.specs.Charts.{State, Leads}
 use Rattle.charts.specs.Cards.{BasicCard, ServiceCard}
 use Rattle.charts.specs.declared.refusal.Refusal.{Refusal}

@@ -44,7 +44,7 @@ fn work_basic<M: Measure, R: Reducer<M>>(
     requires card { (128 ≤ length card.old) × (length ends.old ≡ 8) }
     requires fresh { (e : ℕ) → slice_index ends.old e ≡ 0 }
     requires blank { (q : ℕ) → slice_index_or card.old q (entry_ops M.Measure.ops).zero ≡ (entry_ops M.Measure.ops).zero }
-    ensures { MatchResult result (λ _. Carded M.Measure.ops M.Measure.meant gives (says sheet.now) Basic card.new ends.new) (RefusedBy M.Measure.ops M.Measure.meant gives (says sheet.now) Basic) }
+    ensures { MatchResult result (λ _. Carded M.Measure.ops M.Measure.meant R.gives (says sheet.now) Basic card.new ends.new) (RefusedBy M.Measure.ops M.Measure.meant R.gives (says sheet.now) Basic) }
 {
     match plan_states(&*sheet, marks, order) {
         Err(s) => Err(Refusal::Circle { state: s }),
@@ -93,7 +93,7 @@ fn work_card<M: Measure, R: Reducer<M>>(
     requires room { (1024 ≤ length gathered.old) × (1024 ≤ length joined.old) }
     requires card { (128 ≤ length card.old) × (length ends.old ≡ 8) }
     requires fresh { (e : ℕ) → slice_index ends.old e ≡ 0 }
-    ensures { MatchResult result (λ _. Carded M.Measure.ops M.Measure.meant gives (says sheet.now) (says sheet.now).face.kind card.new ends.new) (RefusedBy M.Measure.ops M.Measure.meant gives (says sheet.now) (says sheet.now).face.kind) }
+    ensures { MatchResult result (λ _. Carded M.Measure.ops M.Measure.meant R.gives (says sheet.now) (says sheet.now).face.kind card.new ends.new) (RefusedBy M.Measure.ops M.Measure.meant R.gives (says sheet.now) (says sheet.now).face.kind) }
 {
     blank(card);
     let mut lens = [0; 32];
@@ -125,7 +125,7 @@ pub fn card<M: Measure, R: Reducer<M>>(
     requires block { (says sheet.now).face.kind ≢ Composite }
     requires rows { 2816 ≤ length rows.old }
     requires out { 128 ≤ length out.old }
-    ensures answer { MatchResult result (λ lens. CardBy M.Measure.ops M.Measure.meant gives (says sheet.now) (says sheet.now).face.kind (made (lists_at out.new lens (says sheet.now).face.inputs 0))) (RefusedBy M.Measure.ops M.Measure.meant gives (says sheet.now) (says sheet.now).face.kind) }
+    ensures answer { MatchResult result (λ lens. CardBy M.Measure.ops M.Measure.meant R.gives (says sheet.now) (says sheet.now).face.kind (made (lists_at out.new lens (says sheet.now).face.inputs 0))) (RefusedBy M.Measure.ops M.Measure.meant R.gives (says sheet.now) (says sheet.now).face.kind) }
     ensures rows { MatchResult result (λ lens. PaddedCard (entry_ops M.Measure.ops).zero out.new lens × (drop 128 out.new ≡ drop 128 out.old)) (λ _. out.new ≡ out.old) }
     ensures lengths { IfOk result (Lengths (says sheet.now).face.inputs) }
     ensures whole { IfOk result (λ lens. Whole M.Measure.ops M.Measure.meant (says sheet.now) (lists_at out.new lens (says sheet.now).face.inputs 0)) }

@@ -92,7 +92,7 @@ pub(crate) fn state_list<M: Measure, R: Reducer<M>>(
     requires filled { (d : ℕ) → Leads (says sheet.now) s d → 1 ≤ slice_index lens.now d }
     requires one { length one.old ≡ 1 }
     requires room { (1024 ≤ length gathered.old) × (1024 ≤ length joined.old) }
-    ensures { Came (StateList M.Measure.ops gives (list_at lists.now lens.now) (state_cost M.Measure.ops M.Measure.meant (says sheet.now) s) (frees (says sheet.now) s)) gathered.new result }
+    ensures { Came (StateList M.Measure.ops R.gives (list_at lists.now lens.now) (state_cost M.Measure.ops M.Measure.meant (says sheet.now) s) (frees (says sheet.now) s)) gathered.new result }
 {
     let cost = state_cost(sheet, s);
     let n = gather(sheet, Pick::Free(s), lists, lens, gathered);
@@ -118,7 +118,7 @@ pub(crate) fn event_list<M: Measure, R: Reducer<M>>(
     requires lens { length (says sheet.now).states ≤ length lens.now }
     requires filled { (s : ℕ) → State (says sheet.now) s → 1 ≤ slice_index lens.now s }
     requires room { (1024 ≤ length gathered.old) × (1024 ≤ length reduced.old) }
-    ensures { Came (EventList M.Measure.ops gives (list_at lists.now lens.now) (guarded (says sheet.now) f)) reduced.new result }
+    ensures { Came (EventList M.Measure.ops R.gives (list_at lists.now lens.now) (guarded (says sheet.now) f)) reduced.new result }
 {
     let n = gather(sheet, Pick::Event(f), lists, lens, gathered);
     if n == 0 {
@@ -170,7 +170,7 @@ pub(crate) fn service_list<M: Measure, R: Reducer<M>>(
     requires service { (says sheet.now).face.kind ≡ Service }
     requires event { f < (says sheet.now).face.inputs }
     requires room { (1024 ≤ length gathered.old) × (1024 ≤ length reduced.old) }
-    ensures { Came (Reduces gives (served_entries M.Measure.meant f (says sheet.now).entries)) reduced.new result }
+    ensures { Came (Reduces R.gives (served_entries M.Measure.meant f (says sheet.now).entries)) reduced.new result }
 {
     let n = serve(sheet, f, gathered);
     let (given, _) = gathered.split_at(n);

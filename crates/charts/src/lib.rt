@@ -1,4 +1,6 @@
 // The cards of basic and service blocks, formed from their sheets.
+#![tactic(auto)]
+
 pub mod card;
 mod cost;
 mod forming;

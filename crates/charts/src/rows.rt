@@ -22,7 +22,7 @@ pub(crate) fn reduce_short<M: Measure, R: Reducer<M>>(
     requires some { 1 ≤ length from.now }
     requires few { length from.now ≤ 1024 }
     requires room { length from.now ≤ length into.old }
-    ensures { Came (Reduces gives from.now) into.new result }
+    ensures { Came (Reduces R.gives from.now) into.new result }
 {
     let n = R::reduce(from, into);
     if n > MOST {
@@ -41,7 +41,7 @@ pub(crate) fn join_short<M: Measure, R: Reducer<M>>(
     requires one { length one.now ≡ 1 }
     requires given { (1 ≤ n) × (n ≤ 1024) }
     requires room { (1024 ≤ length rows.old) × (1024 ≤ length joined.old) }
-    ensures { Came (Reduces gives (sums (entry_ops M.Measure.ops) one.now (take n rows.old))) rows.new result }
+    ensures { Came (Reduces R.gives (sums (entry_ops M.Measure.ops) one.now (take n rows.old))) rows.new result }
 {
     let (given, _) = rows.split_at(n);
     let m = join(one, given, joined);

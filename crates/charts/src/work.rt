@@ -55,7 +55,7 @@ pub(crate) fn work_states<M: Measure, R: Reducer<M>>(
     requires fresh { (t : ℕ) → slice_index lens.old t ≡ 0 }
     requires one { length one.old ≡ 1 }
     requires room { (1024 ≤ length gathered.old) × (1024 ≤ length joined.old) }
-    ensures { MatchResult result (λ _. Working M.Measure.ops M.Measure.meant gives (says sheet.now) order.now order.now [] lists.new lens.new) (λ s. BasicCard M.Measure.ops M.Measure.meant gives (says sheet.now) order.now (stops s)) }
+    ensures { MatchResult result (λ _. Working M.Measure.ops M.Measure.meant R.gives (says sheet.now) order.now order.now [] lists.new lens.new) (λ s. BasicCard M.Measure.ops M.Measure.meant R.gives (says sheet.now) order.now (stops s)) }
 {
     for s in order {
         match state_list::<M, R>(sheet, *s, lists, lens, one, gathered, joined) {
@@ -84,7 +84,7 @@ fn form_event<M: Measure, R: Reducer<M>>(
     requires lent { Lent lists.now lens.now }
     requires worked { kind ≡ Basic → (length (says sheet.now).states ≤ length lens.now) × ((s : ℕ) → State (says sheet.now) s → 1 ≤ slice_index lens.now s) }
     requires room { (1024 ≤ length gathered.old) × (1024 ≤ length reduced.old) }
-    ensures { Came (EventBy M.Measure.ops M.Measure.meant gives (says sheet.now) kind (list_at lists.now lens.now) f) reduced.new result }
+    ensures { Came (EventBy M.Measure.ops M.Measure.meant R.gives (says sheet.now) kind (list_at lists.now lens.now) f) reduced.new result }
 {
     match kind {
         Kind::Basic => event_list::<M, R>(sheet, f, lists, lens, gathered, reduced),
@@ -113,7 +113,7 @@ pub(crate) fn work_events<M: Measure, R: Reducer<M>>(
     requires card { (128 ≤ length card.old) × (length ends.old ≡ 8) }
     requires fresh { (e : ℕ) → slice_index ends.old e ≡ 0 }
     requires blank { (q : ℕ) → slice_index_or card.old q (entry_ops M.Measure.ops).zero ≡ (entry_ops M.Measure.ops).zero }
-    ensures events { MatchResult result (λ _. Events (EventBy M.Measure.ops M.Measure.meant gives (says sheet.now) kind (list_at lists.now lens.now)) (says sheet.now).face.inputs 0 [] (made (lists_at card.new ends.new (says sheet.now).face.inputs 0))) (λ p. Events (EventBy M.Measure.ops M.Measure.meant gives (says sheet.now) kind (list_at lists.now lens.now)) (says sheet.now).face.inputs 0 [] (stops p)) }
+    ensures events { MatchResult result (λ _. Events (EventBy M.Measure.ops M.Measure.meant R.gives (says sheet.now) kind (list_at lists.now lens.now)) (says sheet.now).face.inputs 0 [] (made (lists_at card.new ends.new (says sheet.now).face.inputs 0))) (λ p. Events (EventBy M.Measure.ops M.Measure.meant R.gives (says sheet.now) kind (list_at lists.now lens.now)) (says sheet.now).face.inputs 0 [] (stops p)) }
     ensures lent { Lent card.new ends.new }
     ensures padded { Padded (entry_ops M.Measure.ops).zero card.new ends.new }
     ensures unused { (e : ℕ) → (says sheet.now).face.inputs ≤ e → slice_index ends.new e ≡ 0 }

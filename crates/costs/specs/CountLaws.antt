@@ -1,7 +1,7 @@
 -- Counts output by output, and the laws that follow. Assumes nothing.
 use Rattle.std.specs.Prelude.{◌≡◌, ℕ, zero, suc, ◌+◌, ◌<◌, ◌≤◌, min, max, Bool, true, false, ◌&&◌, List, [], ◌∷◌, ◌++◌, length, take, replicate, ◌≢◌, nat_le, slice_index, refl}
-use Rattle.std.proofs.Common.{◌∙◌, sym, ap, inl, inr, arith}
-use Rattle.std.proofs.lemmas.Bool.{and_parts, and_from, leb-true, le-leb, cases_Bool}
+use Rattle.std.proofs.Common.{◌∙◌, sym, ap, arith}
+use Rattle.std.proofs.lemmas.Bool.{and_parts, and_from, leb-true, le-leb}
 use Rattle.costs.specs.Amounts.{Lawful}
 use Rattle.costs.specs.Entries.{first_counts, zipped, none_lower, count_sum, counts_of, no_counts, one_count, counts_ops}
 use Rattle.costs.specs.declared.counts.Counts.{Counts}

@@ -1,4 +1,6 @@
 // Measures, entries, lists and reducers: what a run of a function block costs at most.
+#![tactic(auto)]
+
 pub mod counting;
 pub mod counts;
 pub mod entry;

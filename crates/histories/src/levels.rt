@@ -6,6 +6,7 @@ use costs::measure::Measure;
 use costs::ticks::Ticks;
 use std::alloc::Global;
 use std::process::Abort;
+use std::test::Fail;
 
 // One algorithm of 7 ticks, which an event runs; it sends the output once.
 const CHART: &[u8] =

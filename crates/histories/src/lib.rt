@@ -1,4 +1,6 @@
 // Tests of the library's calls, one after another, on tables of their own.
+#![tactic(auto)]
+
 #[cfg(test)]
 mod levels;
 #[cfg(test)]

@@ -3,6 +3,7 @@ use crate::tables::*;
 use costs::keep::Keep;
 use costs::ticks::Ticks;
 use std::alloc::{AllocError, Global};
+use std::test::Fail;
 
 // A driver that sends 255 or more, and a block over it that passes these on.
 const FLOOD: &[u8] = b"\x01\x00\x03\x02\x01\x01\x05\x00\x06\x00\x00\x00\x00\x01\xff";

@@ -8,6 +8,7 @@ use costs::reducer::Reducer;
 use costs::ticks::Ticks;
 use std::alloc::Global;
 use std::process::Abort;
+use std::test::Fail;
 
 // One entry, (1; 1, 2).
 const SPLITTER: &[u8] = b"\x01\x00\x03\x02\x01\x02\x05\x00\x07\x00\x00\x00\x00\x01\x01\x02";

@@ -1,6 +1,6 @@
 // The calls of a journal's file.
 ghost use Rattle.std.specs.Prelude.{◌≡◌, ◌-◌, ◌^◌, min, map, IfOk};
-ghost use Rattle.library.specs.Calls.{taken as Taken-of};
+ghost use Rattle.library.specs.Calls.{taken as taken_of};
 ghost use Rattle.sheets.specs.Frames.{fields};
 ghost use Rattle.sheets.specs.Parts.{raw};
 ghost use Rattle.journal.specs.Files.{made_of, shown_call, retime_of, rework_of, card_of, call_of, calls_of, end_of, rows_asked};
@@ -93,7 +93,7 @@ pub fn decode<'a>(heap: Global, bytes: &'a [u8]) -> Result<(Vec<Call<'a>>, usize
 
 // How many of the caller's rows that are left a call takes.
 pub(crate) fn taken(call: &Call<'_>, left: usize) -> usize
-    ensures { result ≡ Taken-of left call.now }
+    ensures { result ≡ taken_of left call.now }
 {
     match call {
         Call::Preview { out, .. } => if 128 <= (*out).min(left) { 128 } else { 0 },

@@ -1,4 +1,6 @@
 // Reads a journal of calls from standard input, makes them, and prints what each answers and what the library then holds.
+#![tactic(auto)]
+
 mod decode;
 mod run;
 mod text;

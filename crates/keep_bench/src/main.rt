@@ -1,4 +1,6 @@
 // Keep on up to 1,024 entries of which none covers another, so many times: the hot loop of everything, for timing.
+#![tactic(auto)]
+
 ghost use Rattle.std.specs.Prelude.{◌≡◌, ◌<◌, ◌≤◌};
 
 use costs::counts::Counts;

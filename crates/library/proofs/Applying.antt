@@ -1,5 +1,5 @@
 -- One call of a list: what its callee promised, as apply promises it. Assumes nothing.
-use Rattle.std.proofs.Common.{◌≡◌, ℕ, ◌<◌, ◌≤◌, min, true, false, cond, leb, List, ◌++◌, length, take, drop, is_ok, Ok, Err, Result, sym, refl, ap, ◌∙◌, subst, ap₂, inl, inr, ⊎_elim, arith}
+use Rattle.std.proofs.Common.{◌≡◌, ℕ, ◌≤◌, min, true, false, cond, leb, List, ◌++◌, length, take, drop, is_ok, Ok, Err, Result, sym, refl, ap, ◌∙◌, subst, ap₂, inl, inr, ⊎_elim, arith}
 use Rattle.std.proofs.lemmas.List.{take_at, drop_at, take-append-drop, length-take-le}
 use Rattle.std.proofs.lemmas.Bool.{cases_lt, le-leb}
 use Rattle.costs.specs.Amounts.{Lawful}
@@ -9,10 +9,10 @@ use Rattle.sheets.specs.Refusals.{framing_of, check_of}
 use Rattle.sheets.specs.declared.refusal.Refusal.{Refusal as SheetRefusal}
 use Rattle.library.specs.Books.{Rules, Book}
 use Rattle.library.specs.Calls.{asked, lent_to, replied}
-use Rattle.library.specs.Checks.{Sizes, Lent, turned, Framed, Right}
-use Rattle.library.specs.Law.{GoesOn, Sound}
+use Rattle.library.specs.Checks.{Sizes, Lent, turned, Framed}
+use Rattle.library.specs.Law.{GoesOn}
 use Rattle.library.specs.Memory.{Stands}
-use Rattle.library.specs.Refusals.{Told, by_sheet}
+use Rattle.library.specs.Refusals.{by_sheet}
 use Rattle.library.specs.Replaying.{answered}
 use Rattle.library.specs.Replies.{reply}
 use Rattle.library.specs.Steps.{Ask, preview, card, Reply, previewed, shown, refused, Step, no_preview, previews, shows, Previewing, PreviewLacks}

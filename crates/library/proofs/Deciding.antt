@@ -1,12 +1,12 @@
 -- Each check turns down at one place at most, and not where it passes. Assumes nothing.
-use Rattle.std.proofs.Common.{◌≡◌, ℕ, ◌+◌, ◌<◌, true, ◌⊎◌, List, take, is_ok, Some, Ok, Err, Result, sym, ap, ◌∙◌, subst, ap₂, subst₂, inl, inr, ⊎_elim, arith}
+use Rattle.std.proofs.Common.{◌≡◌, ℕ, ◌+◌, ◌<◌, true, List, take, is_ok, Some, Ok, Err, Result, sym, ap, ◌∙◌, subst, ap₂, subst₂, inl, inr, ⊎_elim, arith}
 use Rattle.std.specs.List.{slice_get, ContainsAt as Has, AllByRecursion as All}
 use Rattle.std.proofs.ByRecursion.{All-take}
 use Rattle.std.proofs.lemmas.List.{take-take}
 use Rattle.std.proofs.lemmas.Bool.{cases_order, false≢true}
 use Rattle.charts.specs.Charts.{Named as NamedChart, NamedAction, NamedTransition, NamedEntry}
 use Rattle.charts.specs.Naming.{says, UnnamedAt, in_state, in_transition, in_entry, First as FirstFails}
-use Rattle.charts.specs.Refusals.{place as chart-place}
+use Rattle.charts.specs.Refusals.{place as chart_place}
 use Rattle.order.specs.Order.{Order, Complete, Unworkable}
 use Rattle.order.proofs.Induction.{in_order}
 use Rattle.sheets.specs.Sheets.{Sheet, sheet_of, offsets_of}
@@ -121,7 +121,7 @@ module _ (w : ℕ) (bs : List ℕ) where
   unnamed_of : (t : Told) → UnnamedChart w bs t → Unnamed (sheet_of w bs) bs t.place
   unnamed_of t h =
       subst₂ (λ s b. Unnamed s b t.place) (says_is t h) h.bytes
-      (subst (Unnamed (says h.sheet) h.sheet.bytes.now) (sym (ap (λ (x : Told). x.place) h.as_told)) (said_unnamed h.sheet (chart-place h.refusal) h.is.2))
+      (subst (Unnamed (says h.sheet) h.sheet.bytes.now) (sym (ap (λ (x : Told). x.place) h.as_told)) (said_unnamed h.sheet (chart_place h.refusal) h.is.2))
 
   pub chart_one : (t u : Told) → UnnamedChart w bs t → UnnamedChart w bs u → t ≡ u
   chart_one t u g h =

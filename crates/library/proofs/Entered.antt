@@ -1,5 +1,5 @@
 -- The clauses of enter, preview and rework from what their code found. Assumes nothing.
-use Rattle.std.proofs.Common.{◌≡◌, ℕ, ◌+◌, ◌*◌, ◌<◌, ◌≤◌, Bool, true, false, ◌⊎◌, List, [], ◌∷◌, length, take, drop, set, is_ok, Ok, Err, Result, sym, refl, ap, ◌∙◌, subst, subst₂, inl, inr, ⊎_elim, arith, MatchResult}
+use Rattle.std.proofs.Common.{◌≡◌, ℕ, ◌*◌, ◌<◌, ◌≤◌, true, false, List, [], length, take, drop, set, is_ok, Ok, Err, Result, sym, refl, ap, ◌∙◌, subst, subst₂, inl, inr, ⊎_elim, arith, MatchResult}
 use mathlib.Core.Path.{subst₃}
 use Rattle.std.proofs.lemmas.List.{get_or-set_same}
 use Rattle.std.proofs.lemmas.Bool.{cases_lt, false≢true}
@@ -11,10 +11,10 @@ use Rattle.networks.specs.Networks.{network_of, Fit}
 use Rattle.networks.specs.Rows.{list_at}
 use Rattle.sheets.specs.Sheets.{Sheet, sheet_of}
 use Rattle.sheets.specs.declared.words.Interface.{Interface}
-use Rattle.library.specs.Books.{Rules, Block, Book, size, at, used, instance_of, with_block}
+use Rattle.library.specs.Books.{Rules, Block, Book, size, used, instance_of, with_block}
 use Rattle.library.specs.Checks.{Lent, Blocks, Verdict, turned, fine, Never, First, Framed, Right, faces_beneath, cards_beneath, network, StopsBy, CardOf, Working}
 use Rattle.library.specs.Law.{GoesOn, Sound}
-use Rattle.library.specs.Marks.{Counted, kept_end}
+use Rattle.library.specs.Marks.{kept_end}
 use Rattle.library.specs.Memory.{Stands}
 use Rattle.library.specs.Placing.{Unsheeted, Placeable, Unplaced, missing, behind, misnamed, CardIn, Kept, Turned, Entered}
 use Rattle.library.specs.Refusals.{Told, told, by_library}

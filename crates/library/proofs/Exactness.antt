@@ -1,7 +1,7 @@
 -- The working comes to what the plain function says. Assumes nothing.
 use Rattle.std.proofs.Common.{◌≡◌, ℕ, ◌<◌, ◌≤◌, List, length, sym, ap, ◌∙◌, subst, inl, inr, arith}
 use Rattle.costs.specs.declared.entry.Entry.{Entry}
-use Rattle.charts.specs.Refusals.{CardBy, RefusedBy, number as chart-number, place as chart-place}
+use Rattle.charts.specs.Refusals.{CardBy, RefusedBy, number as chart_number, place as chart_place}
 use Rattle.charts.specs.Forming.{stops}
 use Rattle.charts.specs.declared.refusal.Refusal.{Refusal as ChartRefusal}
 use Rattle.charts.specs.declared.refusal.Refusal.TheVariants.{Unnamed, Circle, TooLong}
@@ -9,7 +9,7 @@ use Rattle.charts.proofs.Promises.{exact}
 use Rattle.networks.specs.Evaluation.{stops as network_stops}
 use Rattle.networks.specs.Networks.{network_of, Named as NamedNetwork}
 use Rattle.networks.specs.Promises.{Evaluates}
-use Rattle.networks.specs.Refusals.{Unworked, TooLongIn, place as network-place, number as network-number}
+use Rattle.networks.specs.Refusals.{Unworked, TooLongIn, place as network_place, number as network_number}
 use Rattle.networks.specs.declared.beneath.Face.{Face}
 use Rattle.networks.specs.declared.refusal.Refusal.{Refusal as NetworkRefusal}
 use Rattle.networks.proofs.Evaluating.{card_evaluates, place_evaluates, event_evaluates}
@@ -26,19 +26,19 @@ module _ {M : Type 0} (rules : Rules M) (faces : ℕ → Face) (cards : ℕ → 
   chart_exact : (kind : Kind) (t : Told) → ChartStops rules s kind t → t.number ≡ 10 → ExactChart rules s kind (stops t.place)
   chart_exact kind t h ten = by h.refusal h.is (ap (λ (x : Told). x.number) h.as_told) (ap (λ (x : Told). x.place) h.as_told)
     where
-      by : (e : ChartRefusal) → RefusedBy rules.ops rules.meant rules.gives s kind e → t.number ≡ chart-number e → t.place ≡ chart-place e → ExactChart rules s kind (stops t.place)
+      by : (e : ChartRefusal) → RefusedBy rules.ops rules.meant rules.gives s kind e → t.number ≡ chart_number e → t.place ≡ chart_place e → ExactChart rules s kind (stops t.place)
       by (Unnamed at) is n p = absurd is
       by (Circle state) is n p = absurd (omega (arith, n, ten))
       by (TooLong at) is n p = λ f computes. exact rules.ops rules.meant s f computes kind (stops t.place) (subst (λ q. CardBy rules.ops rules.meant rules.gives s kind (stops q)) (sym p) is)
 
-  pub network_exact : NamedNetwork (network_of s faces) → (e : NetworkRefusal) → network-number e ≡ 10 → Unworked rules.ops rules.gives (network_of s faces) cards e
-      → Evaluates rules.ops rules.gives (network_of s faces) cards (network_stops (network-place e))
+  pub network_exact : NamedNetwork (network_of s faces) → (e : NetworkRefusal) → network_number e ≡ 10 → Unworked rules.ops rules.gives (network_of s faces) cards e
+      → Evaluates rules.ops rules.gives (network_of s faces) cards (network_stops (network_place e))
   network_exact named e ten (inl h) = absurd (omega (arith, ten, h.number_is))
   network_exact named e ten (inr (able, inl h)) = absurd (omega (arith, ten, h.number_is))
   network_exact named e ten (inr (able, inr (none, h))) = by h.place_is
     where
-      by : TooLongIn rules.ops rules.gives (network_of s faces) cards (network-place e) → Evaluates rules.ops rules.gives (network_of s faces) cards (network_stops (network-place e))
-      by (inl t) = place_evaluates rules.ops rules.gives (network_of s faces) form.few_outputs cards named narrow (network-place e) t
+      by : TooLongIn rules.ops rules.gives (network_of s faces) cards (network_place e) → Evaluates rules.ops rules.gives (network_of s faces) cards (network_stops (network_place e))
+      by (inl t) = place_evaluates rules.ops rules.gives (network_of s faces) form.few_outputs cards named narrow (network_place e) t
       by (inr (d, (is, t))) =
           subst (λ n. Evaluates rules.ops rules.gives (network_of s faces) cards (network_stops n)) (sym is) (event_evaluates rules.ops rules.gives (network_of s faces) form.few_outputs cards named narrow d t)
 

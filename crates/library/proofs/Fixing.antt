@@ -1,12 +1,12 @@
 -- Where the reducer computes a function, a call has one answer and one book after it. Assumes nothing.
-use Rattle.std.proofs.Common.{◌≡◌, ℕ, ◌<◌, ◌≤◌, ◌⊎◌, List, [], length, sym, ap, ◌∙◌, subst, inl, inr, ⊎_elim, arith}
+use Rattle.std.proofs.Common.{◌≡◌, ℕ, ◌<◌, ◌≤◌, List, [], length, sym, ap, ◌∙◌, subst, inl, inr, ⊎_elim, arith}
 use Rattle.std.proofs.lemmas.Bool.{cases_lt, cases_order}
 use Rattle.costs.specs.Lists.{Computes}
 use Rattle.costs.specs.declared.entry.Entry.{Entry}
 use Rattle.networks.specs.Evaluation.{Outcome, made, stops}
 use Rattle.networks.specs.Networks.{network_of, Named as NamedNetwork, FullAt}
 use Rattle.networks.specs.Promises.{lists_from}
-use Rattle.networks.specs.Refusals.{Unworked, Carded, number, level, place}
+use Rattle.networks.specs.Refusals.{Unworked, Carded, place}
 use Rattle.networks.specs.declared.beneath.Face.{Face}
 use Rattle.networks.specs.declared.refusal.Refusal.{Refusal}
 use Rattle.sheets.specs.Form.{Form}
@@ -19,7 +19,7 @@ use Rattle.library.specs.Books.{Rules, Book, size, at, inputs_of, used, instance
 use Rattle.library.specs.Checks.{Sizes, Lent, Blocks, blocks_of, Verdict, turned, fine, Never, Right, Missing, Behind, faces_beneath, cards_beneath, NamedBy, Named, StopsBy, FormedBy, Working}
 use Rattle.library.specs.Memory.{BookFacts}
 use Rattle.library.specs.Refusals.{Told}
-use Rattle.library.specs.Steps.{EnterLacks, PreviewLacks, Placing, Answering, Entering, Previewing, Retiming, Reworking, Showing, no_block}
+use Rattle.library.specs.Steps.{EnterLacks, PreviewLacks, Placing, Answering, Entering, Previewing, Retiming, Reworking, Showing}
 use Rattle.library.proofs.Books.{among_at}
 use Rattle.library.proofs.Deciding.{then_one, first_at_one, first_apart, plainly_one, bad_one, bad_apart, unworkable_not, unworkable_one, same_told}
 use Rattle.library.proofs.Determined.{same_cards, chart_stops_one, chart_stops_apart, chart_cards_one}

@@ -8,7 +8,7 @@ use Rattle.charts.specs.Charts.{Named as NamedChart}
 use Rattle.networks.specs.Rows.{list_at, Finished}
 use Rattle.networks.specs.declared.beneath.Face.{Face}
 use Rattle.networks.proofs.Small.{length_list_at}
-use Rattle.sheets.specs.Sheets.{Sheet, sheet_of, offsets_of}
+use Rattle.sheets.specs.Sheets.{sheet_of, offsets_of}
 use Rattle.sheets.specs.declared.words.Item.TheVariants.{Connection}
 use Rattle.sheets.specs.declared.words.Kind.{Kind}
 use Rattle.sheets.specs.declared.words.Kind.TheVariants.{Basic, Service, Composite}

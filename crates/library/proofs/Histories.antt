@@ -1,12 +1,12 @@
 -- A history, one call longer. Assumes nothing.
-use Rattle.std.proofs.Common.{◌≡◌, ℕ, zero, suc, ◌+◌, ◌-◌, ◌<◌, ◌≤◌, min, Bool, true, false, cond, leb, ◌⊎◌, List, [], ◌∷◌, ◌++◌, length, get_or, take, drop, set, sym, refl, ap, ◌∙◌, subst, ap₂, subst₂, inl, inr, ⊎_elim, arith}
-use Rattle.std.proofs.lemmas.List.{take_more, take_more_set, take-take, drop-take, length-take, length-take-le, length-drop, drop-drop}
+use Rattle.std.proofs.Common.{◌≡◌, ℕ, ◌+◌, ◌-◌, ◌<◌, ◌≤◌, min, leb, List, [], ◌∷◌, ◌++◌, length, get_or, take, drop, set, sym, refl, ap, ◌∙◌, subst, ap₂, subst₂, arith}
+use Rattle.std.proofs.lemmas.List.{take_more, take_more_set, take-take, drop-take, length-take-le, length-drop, drop-drop}
 use Rattle.std.proofs.lemmas.Bool.{cond_both, leb-true}
 use Rattle.costs.specs.declared.entry.Entry.{Entry}
 use Rattle.library.specs.Books.{Rules, Book}
 use Rattle.library.specs.Calls.{asked, out_for, takes, lent_to, taken, cursor, asks, replied, replies}
-use Rattle.library.specs.Checks.{Sizes, Lent}
-use Rattle.library.specs.Steps.{Asked, Reply, Step, History, later}
+use Rattle.library.specs.Checks.{Sizes}
+use Rattle.library.specs.Steps.{Step, History, later}
 use Rattle.library.specs.declared.calls.Call.{Call}
 use Rattle.library.specs.declared.calls.Answer.{Answer}
 

@@ -1,11 +1,11 @@
 -- What the checks found over the blocks that the tables hold is so of the book's blocks. Assumes nothing.
-use Rattle.std.proofs.Common.{◌≡◌, ℕ, zero, suc, ◌+◌, ◌<◌, ◌≤◌, true, ◌⊎◌, List, length, sym, refl, ap, ◌∙◌, subst, subst₂, inl, inr, ⊎_elim, arith}
+use Rattle.std.proofs.Common.{◌≡◌, ℕ, zero, suc, ◌+◌, ◌<◌, ◌≤◌, true, List, length, sym, refl, ap, ◌∙◌, subst, subst₂, inl, inr, ⊎_elim, arith}
 use Rattle.std.proofs.lemmas.Bool.{cases_lt, false≢true}
 use Rattle.costs.specs.Lists.{Among}
 use Rattle.costs.specs.declared.entry.Entry.{Entry}
 use Rattle.networks.specs.Networks.{network_of, Fit}
 use Rattle.sheets.specs.Sheets.{Sheet, sheet_of}
-use Rattle.library.specs.Books.{Rules, Block, Book, no_block, size, at, used, start_of, instance_of, Within, itself, deeper, Stale}
+use Rattle.library.specs.Books.{Rules, Block, Book, size, at, used, start_of, instance_of, Within, itself, deeper, Stale}
 use Rattle.library.specs.Checks.{Blocks, blocks_of, Lent, Verdict, turned, fine, Then, First, Never, FirstAt, Missing, Behind, cards_beneath, network, MisnamedBy, NamedBy, Named, StopsBy, CardOver, CardOf, Working}
 use Rattle.library.specs.Marks.{kept_end}
 use Rattle.library.specs.Memory.{Stands}

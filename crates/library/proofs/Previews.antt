@@ -1,5 +1,5 @@
 -- The clauses of preview from what its code found. Assumes nothing.
-use Rattle.std.proofs.Common.{◌≡◌, ℕ, ◌+◌, ◌*◌, ◌<◌, ◌≤◌, false, ◌⊎◌, List, length, take, drop, is_ok, Ok, Err, Result, sym, refl, ap, ◌∙◌, subst, inl, inr, ⊎_elim, arith, MatchResult}
+use Rattle.std.proofs.Common.{◌≡◌, ℕ, ◌≤◌, false, List, take, is_ok, Ok, Err, Result, sym, refl, ap, ◌∙◌, subst, inl, inr, arith, MatchResult}
 use Rattle.costs.specs.Amounts.{Lawful}
 use Rattle.costs.specs.Entries.{entry_ops}
 use Rattle.costs.specs.Lists.{Sound as SoundReducer}
@@ -8,7 +8,7 @@ use Rattle.networks.specs.Networks.{Fit}
 use Rattle.networks.specs.Rows.{list_at}
 use Rattle.sheets.specs.Sheets.{Sheet, sheet_of}
 use Rattle.library.specs.Books.{Rules, Book}
-use Rattle.library.specs.Checks.{Lent, Blocks, Verdict, turned, fine, Then, Never, FirstAt, Framed, Right, cards_beneath, network, CardOf, Working}
+use Rattle.library.specs.Checks.{Lent, Blocks, turned, fine, Then, Never, FirstAt, Framed, Right, cards_beneath, network, CardOf, Working}
 use Rattle.library.specs.Law.{GoesOn}
 use Rattle.library.specs.Marks.{Counted}
 use Rattle.library.specs.Memory.{Stands}

@@ -1,5 +1,5 @@
 -- What replaying calls keeps, one call more. Assumes nothing.
-use Rattle.std.proofs.Common.{◌≡◌, ℕ, ◌+◌, ◌-◌, ◌<◌, ◌≤◌, List, [], ◌∷◌, ◌++◌, length, get_or, take, drop, set, sym, refl, ap, ◌∙◌, subst, ap₂, subst₂, arith}
+use Rattle.std.proofs.Common.{◌≡◌, ℕ, ◌+◌, ◌-◌, ◌<◌, ◌≤◌, List, [], ◌∷◌, ◌++◌, length, get_or, take, drop, set, sym, refl, ap, ◌∙◌, subst, ap₂, arith}
 use Rattle.std.proofs.lemmas.List.{append-nil, get_or_default, take_rest, drop_all, take_more, take_at, drop_at, drop-drop, drop-set-lt, length-take-le, length-drop, length-append}
 use Rattle.costs.specs.declared.entry.Entry.{Entry}
 use Rattle.library.specs.Books.{Rules, Book, empty}

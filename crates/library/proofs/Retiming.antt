@@ -14,7 +14,7 @@ use Rattle.sheets.specs.declared.words.Action.{Action}
 use Rattle.sheets.specs.declared.words.Kind.{Kind}
 use Rattle.sheets.specs.declared.words.Kind.TheVariants.{Basic, Service, Composite}
 use Rattle.sheets.proofs.Forms.{form_of}
-use Rattle.library.specs.Books.{Rules, Block, Book, size, at, used, start_of, instance_of, retimed_block, with_retime, StandsOn, Within, itself, deeper, Stale}
+use Rattle.library.specs.Books.{Rules, Block, Book, size, at, start_of, instance_of, retimed_block, with_retime, StandsOn, Within, itself, deeper, Stale}
 use Rattle.library.specs.Checks.{blocks_of, faces_beneath, cards_beneath, Framed, Right, NamedBy, Named, CardOf}
 use Rattle.library.specs.Marks.{kept_names, leans, with_mark, Marked}
 use Rattle.library.specs.Memory.{BlockFacts, Times, BookFacts, Shelved, Indexed, Held, Stands}

@@ -1,23 +1,23 @@
 -- The clauses of rework from what its code found. Assumes nothing.
-use Rattle.std.proofs.Common.{◌≡◌, ℕ, ◌+◌, ◌*◌, ◌<◌, ◌≤◌, Bool, true, false, ◌&&◌, ◌⊎◌, List, [], length, take, drop, set, is_ok, Ok, Err, Result, sym, refl, ap, ◌∙◌, subst, subst₂, inl, inr, ⊎_elim, arith, MatchResult}
+use Rattle.std.proofs.Common.{◌≡◌, ℕ, ◌*◌, ◌<◌, ◌≤◌, true, false, ◌&&◌, List, take, drop, set, is_ok, Ok, Err, Result, sym, refl, ap, ◌∙◌, subst, subst₂, inl, inr, arith, MatchResult}
 use Rattle.std.proofs.lemmas.List.{get_or-set_same}
-use Rattle.std.proofs.lemmas.Bool.{false≢true, both_ways, and_from}
+use Rattle.std.proofs.lemmas.Bool.{false≢true, and_from}
 use Rattle.costs.specs.Amounts.{Lawful}
 use Rattle.costs.specs.Entries.{entry_ops}
-use Rattle.costs.specs.Lists.{Sized, Sound as SoundReducer}
+use Rattle.costs.specs.Lists.{Sound as SoundReducer}
 use Rattle.costs.specs.declared.entry.Entry.{Entry}
 use Rattle.networks.specs.Networks.{Fit}
 use Rattle.networks.specs.Rows.{list_at}
 use Rattle.sheets.specs.Refusals.{framing_of, check_of}
 use Rattle.sheets.specs.Sheets.{Sheet, sheet_of}
 use Rattle.sheets.proofs.Forms.{form_of}
-use Rattle.library.specs.Books.{Rules, Block, Book, size, at, with_work, Stale, Current}
+use Rattle.library.specs.Books.{Rules, Book, size, at, with_work, Stale}
 use Rattle.library.specs.Checks.{Lent, Blocks, blocks_of, Verdict, turned, fine, First, Never, Behind, Named, cards_beneath, network, CardOf, Working}
 use Rattle.library.specs.Law.{GoesOn}
 use Rattle.library.specs.Marks.{Counted, kept_bytes}
 use Rattle.library.specs.Memory.{Stands}
 use Rattle.library.specs.Placing.{Old, CardIn, Redone, Regular, Renewed, Reworks}
-use Rattle.library.specs.Refusals.{Told, told, by_library}
+use Rattle.library.specs.Refusals.{told, by_library}
 use Rattle.library.specs.Replies.{verdict, reply}
 use Rattle.library.specs.Steps.{Renewing, Reworking, rework, done, refused, no_rework}
 use Rattle.library.specs.Tables.{no_row, row_at, row_of, lens_of, card_rows, overwritten, blocks_kept, kept_list}
@@ -28,9 +28,9 @@ use Rattle.library.proofs.Entered.{fit_any}
 use Rattle.library.proofs.Finding.{first_as}
 use Rattle.library.proofs.Forming.{off_card}
 use Rattle.library.proofs.Parts.{part_written}
-use Rattle.library.proofs.Placing.{mark_stale, stale_mark, named_back, renewing_to}
+use Rattle.library.proofs.Placing.{mark_stale, named_back, renewing_to}
 use Rattle.library.proofs.Reading.{counted_is, framed_kept, right_kept, says_kept, book_current, list_is}
-use Rattle.library.proofs.Renewing.{rework_missing, rework_current, rework_done, reworked_index}
+use Rattle.library.proofs.Renewing.{rework_done, reworked_index}
 use Rattle.library.proofs.Rows.{length_card_rows}
 
 -- a card worked again, in its rows and its row

@@ -1,5 +1,5 @@
 -- What a rework does to the book and to the tables that stand for it. Assumes nothing.
-use Rattle.std.proofs.Common.{◌≡◌, ℕ, ◌*◌, ◌<◌, ◌≤◌, Bool, true, false, ◌⊎◌, List, [], length, take, drop, set, sym, refl, ap, ◌∙◌, subst, ⊎_elim, arith}
+use Rattle.std.proofs.Common.{◌≡◌, ℕ, ◌*◌, ◌<◌, ◌≤◌, Bool, true, false, List, [], length, take, drop, set, sym, refl, ap, ◌∙◌, subst, ⊎_elim, arith}
 use Rattle.std.proofs.lemmas.List.{length-set, get_or-set_same, get_or-set_other}
 use Rattle.std.proofs.lemmas.Bool.{cases_eq, cases_lt, both_ways}
 use Rattle.costs.specs.Entries.{entry_ops}
@@ -7,7 +7,7 @@ use Rattle.costs.specs.Lists.{Among, Sized}
 use Rattle.costs.specs.declared.entry.Entry.{Entry}
 use Rattle.sheets.specs.Form.{Form}
 use Rattle.sheets.specs.Sheets.{Sheet, sheet_of}
-use Rattle.library.specs.Books.{Rules, Block, Book, size, at, inputs_of, used, start_of, instance_of, worked_block, with_work, StandsOn, Stale}
+use Rattle.library.specs.Books.{Rules, Block, Book, size, at, inputs_of, start_of, instance_of, worked_block, with_work, StandsOn, Stale}
 use Rattle.library.specs.Checks.{blocks_of, faces_beneath, cards_beneath, Framed, Right, Behind, Never, Named, CardOf}
 use Rattle.library.specs.Memory.{BlockFacts, Times, BookFacts, Shelved, Indexed, Stands}
 use Rattle.library.specs.Tables.{no_row, row_at, row_of, lens_of, card_rows, sheet_bytes, overwritten}

@@ -18,7 +18,7 @@ use Rattle.library.specs.Books.{Rules, Book, size, at, inputs_of, instance_of, S
 use Rattle.library.specs.Checks.{blocks_of, faces_beneath, cards_beneath, network, NamedBy, FormedBy}
 use Rattle.library.specs.Law.{Sound}
 use Rattle.library.specs.Memory.{BookFacts, Stands}
-use Rattle.library.specs.Runs.{Run, alone, inside, Serves, nothing_left as none_left, arrives_outside as goes-outside, arrives_inside as goes-inside}
+use Rattle.library.specs.Runs.{Run, alone, inside, Serves, nothing_left as none_left, arrives_outside as goes_outside, arrives_inside as goes_inside}
 use Rattle.library.specs.declared.row.Row.{Row}
 use Rattle.library.proofs.Books.{among_at}
 use Rattle.library.proofs.Reading.{list_held}
@@ -46,13 +46,13 @@ module _ {M : Type 0} (ops : Amounts M) (meant : List ℕ → M) (b : Book M) wh
   -- arrivals served in the book are served over the runs beneath, and the other way
   to_served : {n : ℕ} {fs : List End} {a : M} {ns : Sent} → Serves ops meant b n fs a ns → Served ops (at b n).sheet.connections (Under n) fs a ns
   to_served (none_left n) = nothing_left
-  to_served (goes-outside n p rest a ns more) = arrives_outside p rest a ns (to_served more)
-  to_served (goes-inside n i f rest a ns c ms run more) = arrives_inside i f rest a ns c ms run (to_served more)
+  to_served (goes_outside n p rest a ns more) = arrives_outside p rest a ns (to_served more)
+  to_served (goes_inside n i f rest a ns c ms run more) = arrives_inside i f rest a ns c ms run (to_served more)
 
   from_served : (n : ℕ) {fs : List End} {a : M} {ns : Sent} → Served ops (at b n).sheet.connections (Under n) fs a ns → Serves ops meant b n fs a ns
   from_served n nothing_left = none_left n
-  from_served n (arrives_outside p rest a ns more) = goes-outside n p rest a ns (from_served n more)
-  from_served n (arrives_inside i f rest a ns c ms run more) = goes-inside n i f rest a ns c ms run (from_served n more)
+  from_served n (arrives_outside p rest a ns more) = goes_outside n p rest a ns (from_served n more)
+  from_served n (arrives_inside i f rest a ns c ms run more) = goes_inside n i f rest a ns c ms run (from_served n more)
 
 module _ {M : Type 0} (rules : Rules M) (b : Book M) (facts : BookFacts rules b) where
   -- what stands beneath a current block is an earlier, current block

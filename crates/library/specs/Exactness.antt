@@ -4,7 +4,7 @@ use Rattle.costs.specs.Lists.{Computes}
 use Rattle.costs.specs.declared.entry.Entry.{Entry}
 use Rattle.charts.specs.Forming.{Outcome, made, stops}
 use Rattle.charts.specs.Theorems.{ExactBy}
-use Rattle.networks.specs.Evaluation.{made as network-made, stops as network_stops}
+use Rattle.networks.specs.Evaluation.{made as network_made, stops as network_stops}
 use Rattle.networks.specs.Networks.{network_of}
 use Rattle.networks.specs.Promises.{lists_from, Evaluates}
 use Rattle.networks.specs.declared.beneath.Face.{Face}
@@ -24,7 +24,7 @@ module _ {M : Type 0} (rules : Rules M) (faces : ℕ → Face) (cards : ℕ → 
   abbrev pub ExactCard : Kind → (ℕ → List (Entry M)) → Type 0
   ExactCard Basic card = ExactChart rules s Basic (made (lists_from card s.face.inputs 0))
   ExactCard Service card = ExactChart rules s Service (made (lists_from card s.face.inputs 0))
-  ExactCard Composite card = Evaluates rules.ops rules.gives (network_of s faces) cards (network-made (lists_from card s.face.inputs 0))
+  ExactCard Composite card = Evaluates rules.ops rules.gives (network_of s faces) cards (network_made (lists_from card s.face.inputs 0))
 
   -- a list above 16, and its place, are the plain function's
   abbrev pub ExactStop : Kind → ℕ → Type 0

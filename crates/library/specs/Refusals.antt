@@ -1,8 +1,8 @@
 -- Refusals by number, level and place. Assumes nothing.
 use Rattle.std.specs.Prelude.{ℕ}
-use Rattle.charts.specs.Refusals.{number as chart-number, level as chart-level, place as chart-place}
-use Rattle.networks.specs.Refusals.{number as network-number, level as network-level, place as network-place}
-use Rattle.sheets.specs.Refusals.{number as sheet-number, level as sheet-level, place as sheet-place}
+use Rattle.charts.specs.Refusals.{number as chart_number, level as chart_level, place as chart_place}
+use Rattle.networks.specs.Refusals.{number as network_number, level as network_level, place as network_place}
+use Rattle.sheets.specs.Refusals.{number as sheet_number, level as sheet_level, place as sheet_place}
 use Rattle.charts.specs.declared.refusal.Refusal.{Refusal as ChartRefusal}
 use Rattle.networks.specs.declared.refusal.Refusal.{Refusal as NetworkRefusal}
 use Rattle.sheets.specs.declared.refusal.Refusal.{Refusal as SheetRefusal}
@@ -23,13 +23,13 @@ by_library n p = record { number = n; level = 4; place = p }
 
 -- what the layers below turn down keeps its number, level and place
 abbrev pub by_sheet : SheetRefusal → Told
-by_sheet e = record { number = sheet-number e; level = sheet-level e; place = sheet-place e }
+by_sheet e = record { number = sheet_number e; level = sheet_level e; place = sheet_place e }
 
 abbrev pub by_chart : ChartRefusal → Told
-by_chart e = record { number = chart-number e; level = chart-level e; place = chart-place e }
+by_chart e = record { number = chart_number e; level = chart_level e; place = chart_place e }
 
 abbrev pub by_network : NetworkRefusal → Told
-by_network e = record { number = network-number e; level = network-level e; place = network-place e }
+by_network e = record { number = network_number e; level = network_level e; place = network_place e }
 
 -- which table there is no room in, as a place
 abbrev pub table_number : Table → ℕ

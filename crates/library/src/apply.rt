@@ -2,12 +2,12 @@
 ghost use Rattle.std.specs.Prelude.{◌≡◌, false, length, take, drop, is_ok};
 ghost use Rattle.networks.specs.Rows.{list_at};
 ghost use Rattle.library.specs.Books.{Book, rules};
-ghost use Rattle.library.specs.Calls.{asked, lent_to, taken as Taken-of, replied};
+ghost use Rattle.library.specs.Calls.{asked, lent_to, taken as taken_of, replied};
 ghost use Rattle.library.specs.Law.{GoesOn};
 ghost use Rattle.library.specs.Memory.{Stands};
 ghost use Rattle.library.specs.Replies.{reply};
 ghost use Rattle.library.specs.Replaying.{answered};
-ghost use Rattle.library.specs.Steps.{preview as ask-preview, previewed as previewed-card};
+ghost use Rattle.library.specs.Steps.{preview as ask_preview, previewed as previewed_card};
 ghost use Rattle.library.specs.declared.calls.Answer.TheVariants.{Entered, Previewed, Done, Shown};
 
 use crate::calls::{Answer, Call};
@@ -71,7 +71,7 @@ fn open_preview<M: Measure, R: Reducer<M>>(
     out: &mut [Entry<M>],
 ) -> Result<[usize; 8], Refusal>
     ensures same { is_ok result ≡ false → out.new ≡ out.old }
-    ensures book { GoesOn (rules M.Measure.ops M.Measure.wide M.Measure.meant R.Reducer.gives) (ask-preview width.bytes sheet.now) (record { rows = length rows.entry.now; out = length out.old }) (reply (λ lens. previewed-card (list_at out.new lens)) result) shelf.now index.entry.now cards.now shelf.now index.entry.now cards.now }
+    ensures book { GoesOn (rules M.Measure.ops M.Measure.wide M.Measure.meant R.Reducer.gives) (ask_preview width.bytes sheet.now) (record { rows = length rows.old; out = length out.old }) (reply (λ lens. previewed_card (list_at out.new lens)) result) shelf.now index.now cards.now shelf.now index.now cards.now }
 {
     if let Err(e) = framing(sheet) {
         return Err(Refusal::Sheet(e));
@@ -93,8 +93,8 @@ pub(crate) fn apply<M: Measure, R: Reducer<M>>(
     left: &mut [Entry<M>],
     call: &Call<'_>,
 ) -> Answer
-    ensures rest { (b : Book M) → Stands (rules M.Measure.ops M.Measure.wide M.Measure.meant R.Reducer.gives) b shelf.old index.entry.now cards.old → drop (Taken-of (length left.old) call.now) left.new ≡ drop (Taken-of (length left.old) call.now) left.old }
-    ensures book { GoesOn (rules M.Measure.ops M.Measure.wide M.Measure.meant R.Reducer.gives) (asked call.now) (lent_to (length rows.old) (length left.old) call.now) (replied result (take (Taken-of (length left.old) call.now) left.new)) shelf.old index.entry.now cards.old shelf.new index.exit.now cards.new }
+    ensures rest { (b : Book M) → Stands (rules M.Measure.ops M.Measure.wide M.Measure.meant R.Reducer.gives) b shelf.old index.old cards.old → drop (taken_of (length left.old) call.now) left.new ≡ drop (taken_of (length left.old) call.now) left.old }
+    ensures book { GoesOn (rules M.Measure.ops M.Measure.wide M.Measure.meant R.Reducer.gives) (asked call.now) (lent_to (length rows.old) (length left.old) call.now) (replied result (take (taken_of (length left.old) call.now) left.new)) shelf.old index.old cards.old shelf.new index.new cards.new }
 {
     match call {
         Call::Enter { sheet, rows: lent } => {

@@ -41,7 +41,7 @@ fn event_start(rows: usize, f: usize) -> usize
 
 // The list of event f on the card of block n.
 fn kept_list<'a, M>(index: &[Row], cards: &'a [Entry<M>], n: u8, f: usize) -> &'a [Entry<M>]
-    ensures { result.now ≡ kept_list index.entry.now cards.now n f }
+    ensures { result.now ≡ kept_list index.now cards.now n f }
 {
     let row = row_at(index, n as usize);
     let card = part(cards, 128 * n as usize, cards.len());

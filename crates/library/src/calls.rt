@@ -1,6 +1,6 @@
 // Calls and answers, for a list of calls.
 ghost use Rattle.std.specs.Prelude.{◌≡◌};
-ghost use Rattle.library.specs.Calls.{taken as Taken-of};
+ghost use Rattle.library.specs.Calls.{taken as taken_of};
 ghost use Rattle.library.specs.Widths.{bytes_in};
 
 use crate::refusal::Refusal;
@@ -73,7 +73,7 @@ pub enum Call<'a> {
 impl<'a> Call<'a> {
     // How many of the caller's rows that are left it takes: 128 for a preview, 16 for a card, if it is lent so many.
     pub fn taken(&self, left: usize) -> usize
-        ensures { result ≡ Taken-of left self.now }
+        ensures { result ≡ taken_of left self.now }
     {
         match self {
             Call::Preview { out, .. } => if 128 <= (*out).min(left) { 128 } else { 0 },

@@ -5,7 +5,7 @@ ghost use Rattle.library.specs.Books.{Book, rules, at};
 ghost use Rattle.library.specs.Law.{GoesOn};
 ghost use Rattle.library.specs.Memory.{Stands};
 ghost use Rattle.library.specs.Replies.{verdict, reply};
-ghost use Rattle.library.specs.Steps.{Showing, card as ask-card, shown};
+ghost use Rattle.library.specs.Steps.{Showing, card as ask_card, shown};
 ghost use Rattle.library.specs.Tables.{overwritten, padded};
 
 use crate::kept::{count, row_at};
@@ -33,10 +33,10 @@ pub fn card<M: Measure, R: Reducer<M>>(
     out: &mut [Entry<M>],
 ) -> Result<usize, Refusal>
     ensures same { is_ok result ≡ false → out.new ≡ out.old }
-    ensures answer { (b : Book M) (shelf : List ℕ) (rows : ℕ) → Stands (rules M.Measure.ops M.Measure.wide M.Measure.meant R.Reducer.gives) b shelf index.entry.now cards.now → Showing (rules M.Measure.ops M.Measure.wide M.Measure.meant R.Reducer.gives) b (record { rows = rows; out = length out.old }) block event (verdict (λ l. take l out.new) result) }
-    ensures len { (b : Book M) (shelf : List ℕ) → Stands (rules M.Measure.ops M.Measure.wide M.Measure.meant R.Reducer.gives) b shelf index.entry.now cards.now → is_ok result ≡ true → result ≡ Ok (length ((at b block).card event)) }
-    ensures rows { (b : Book M) (shelf : List ℕ) → Stands (rules M.Measure.ops M.Measure.wide M.Measure.meant R.Reducer.gives) b shelf index.entry.now cards.now → is_ok result ≡ true → out.new ≡ overwritten out.old 0 (padded (entry_ops M.Measure.ops).zero ((at b block).card event)) }
-    ensures book { (shelf : List ℕ) (rows : ℕ) → GoesOn (rules M.Measure.ops M.Measure.wide M.Measure.meant R.Reducer.gives) (ask-card block event) (record { rows = rows; out = length out.old }) (reply (λ l. shown (take l out.new)) result) shelf index.entry.now cards.now shelf index.entry.now cards.now }
+    ensures answer { (b : Book M) (shelf : List ℕ) (rows : ℕ) → Stands (rules M.Measure.ops M.Measure.wide M.Measure.meant R.Reducer.gives) b shelf index.now cards.now → Showing (rules M.Measure.ops M.Measure.wide M.Measure.meant R.Reducer.gives) b (record { rows = rows; out = length out.old }) block event (verdict (λ l. take l out.new) result) }
+    ensures len { (b : Book M) (shelf : List ℕ) → Stands (rules M.Measure.ops M.Measure.wide M.Measure.meant R.Reducer.gives) b shelf index.now cards.now → is_ok result ≡ true → result ≡ Ok (length ((at b block).card event)) }
+    ensures rows { (b : Book M) (shelf : List ℕ) → Stands (rules M.Measure.ops M.Measure.wide M.Measure.meant R.Reducer.gives) b shelf index.now cards.now → is_ok result ≡ true → out.new ≡ overwritten out.old 0 (padded (entry_ops M.Measure.ops).zero ((at b block).card event)) }
+    ensures book { (shelf : List ℕ) (rows : ℕ) → GoesOn (rules M.Measure.ops M.Measure.wide M.Measure.meant R.Reducer.gives) (ask_card block event) (record { rows = rows; out = length out.old }) (reply (λ l. shown (take l out.new)) result) shelf index.now cards.now shelf index.now cards.now }
 {
     if block >= count(index) {
         return Err(Refusal::NoBlock { place: block });

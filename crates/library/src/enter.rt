@@ -12,7 +12,7 @@ ghost use Rattle.library.specs.Memory.{Stands};
 ghost use Rattle.library.specs.Placing.{lent_of, faces_kept, cards_kept, Unsheeted, Kept, Turned, Entered};
 ghost use Rattle.library.specs.Refusals.{told, table_number};
 ghost use Rattle.library.specs.Replies.{verdict, reply};
-ghost use Rattle.library.specs.Steps.{EnterLacks, Entering, enter as ask-enter, entered};
+ghost use Rattle.library.specs.Steps.{EnterLacks, Entering, enter as ask_enter, entered};
 ghost use Rattle.library.specs.Tables.{row_of, card_rows, overwritten, blocks_kept, kept_list, sizes_of};
 
 use crate::kept::{count, made_sheet, row_at, width};
@@ -41,7 +41,7 @@ fn check_bytes(bytes: &[u8], width: Width) -> Result<(), Refusal>
 
 // Where the sheets of the first n rows end; none if that is no number of 64 bits.
 fn end_of(index: &[Row], n: usize) -> Option<usize>
-    ensures { MatchOption result (2 ^ 64 ≤ kept_end index.entry.now n) (λ e. e ≡ kept_end index.entry.now n) }
+    ensures { MatchOption result (2 ^ 64 ≤ kept_end index.now n) (λ e. e ≡ kept_end index.now n) }
 {
     if n == 0 {
         return Some(0);
@@ -59,7 +59,7 @@ fn find_room<M: Measure>(
     n: usize,
     len: usize,
 ) -> Result<usize, Table>
-    ensures { MatchResult result (λ at. (at ≡ kept_end index.entry.now n) × Never (EnterLacks (sizes_of shelf.now index.entry.now cards.now) (lent_of rows 0) (kept_end index.entry.now n) n len)) (λ t. First (EnterLacks (sizes_of shelf.now index.entry.now cards.now) (lent_of rows 0) (kept_end index.entry.now n) n len) (table_number t)) }
+    ensures { MatchResult result (λ at. (at ≡ kept_end index.now n) × Never (EnterLacks (sizes_of shelf.now index.now cards.now) (lent_of rows 0) (kept_end index.now n) n len)) (λ t. First (EnterLacks (sizes_of shelf.now index.now cards.now) (lent_of rows 0) (kept_end index.now n) n len) (table_number t)) }
 {
     let Some(at) = end_of(index, n) else {
         return Err(Table::Shelf);
@@ -96,11 +96,11 @@ fn store<M: Measure>(
     card: &[Entry<M>],
 )
     requires shelf { row.start + length bytes.now ≤ length shelf.old }
-    requires index { n < length index.now }
+    requires index { n < length index.old }
     requires cards { 128 * n + 128 ≤ length cards.old }
     requires card { 256 ≤ length card.now }
     ensures shelf { shelf.new ≡ overwritten shelf.old row.start bytes.now }
-    ensures index { index.exit.now ≡ slice_set index.entry.now n row }
+    ensures index { index.new ≡ slice_set index.old n row }
     ensures cards { cards.new ≡ overwritten cards.old (128 * n) (take 128 card.now) }
 {
     overwrite(shelf, row.start, bytes);
@@ -122,11 +122,11 @@ fn enter_at<M: Measure, R: Reducer<M>>(
 ) -> Result<(), Refusal>
     requires bytes { sheet.now.bytes.now ≡ bytes.now }
     requires width { sheet.now.width.bytes ≡ M.Measure.wide }
-    requires named { NamedBy (faces_kept index.now (says sheet.now).instances) (says sheet.now) (says sheet.now).face.kind }
+    requires named { NamedBy (faces_kept index.old (says sheet.now).instances) (says sheet.now) (says sheet.now).face.kind }
     requires rows { 3072 ≤ length rows.old }
-    requires room { (at + length bytes.now ≤ length shelf.old) × (n < length index.now) × (128 * n + 128 ≤ length cards.old) }
-    ensures same { is_ok result ≡ false → (shelf.new ≡ shelf.old) × (index.exit.now ≡ index.entry.now) × (cards.new ≡ cards.old) }
-    ensures kept { MatchResult result (λ _. Kept (rules M.Measure.ops M.Measure.wide M.Measure.meant R.Reducer.gives) (blocks_kept n index.entry.now cards.old) bytes.now n at shelf.old index.entry.now cards.old shelf.new index.exit.now cards.new) (λ e. Fit (network_of (says sheet.now) (faces_kept index.entry.now (says sheet.now).instances)) (cards_kept index.entry.now cards.old (says sheet.now).instances) → StopsBy (rules M.Measure.ops M.Measure.wide M.Measure.meant R.Reducer.gives) (faces_kept index.entry.now (says sheet.now).instances) (cards_kept index.entry.now cards.old (says sheet.now).instances) (says sheet.now) (says sheet.now).face.kind (told e)) }
+    requires room { (at + length bytes.now ≤ length shelf.old) × (n < length index.old) × (128 * n + 128 ≤ length cards.old) }
+    ensures same { is_ok result ≡ false → (shelf.new ≡ shelf.old) × (index.new ≡ index.old) × (cards.new ≡ cards.old) }
+    ensures kept { MatchResult result (λ _. Kept (rules M.Measure.ops M.Measure.wide M.Measure.meant R.Reducer.gives) (blocks_kept n index.old cards.old) bytes.now n at shelf.old index.old cards.old shelf.new index.new cards.new) (λ e. Fit (network_of (says sheet.now) (faces_kept index.old (says sheet.now).instances)) (cards_kept index.old cards.old (says sheet.now).instances) → StopsBy (rules M.Measure.ops M.Measure.wide M.Measure.meant R.Reducer.gives) (faces_kept index.old (says sheet.now).instances) (cards_kept index.old cards.old (says sheet.now).instances) (says sheet.now) (says sheet.now).face.kind (told e)) }
 {
     let (space, card) = rows.split_at_mut(2816);
     match work::<M, R>(index, cards, sheet, space, card) {
@@ -159,8 +159,8 @@ fn enter_checked<M: Measure, R: Reducer<M>>(
 ) -> Result<usize, Refusal>
     requires bytes { sheet.now.bytes.now ≡ bytes.now }
     requires width { sheet.now.width.bytes ≡ M.Measure.wide }
-    ensures same { is_ok result ≡ false → (shelf.new ≡ shelf.old) × (index.exit.now ≡ index.entry.now) × (cards.new ≡ cards.old) }
-    ensures found { MatchResult result (Entered (rules M.Measure.ops M.Measure.wide M.Measure.meant R.Reducer.gives) bytes.now shelf.old index.entry.now cards.old (lent_of (length rows.old) 0) shelf.new index.exit.now cards.new) (λ e. Turned (rules M.Measure.ops M.Measure.wide M.Measure.meant R.Reducer.gives) bytes.now shelf.old index.entry.now cards.old (lent_of (length rows.old) 0) (told e)) }
+    ensures same { is_ok result ≡ false → (shelf.new ≡ shelf.old) × (index.new ≡ index.old) × (cards.new ≡ cards.old) }
+    ensures found { MatchResult result (Entered (rules M.Measure.ops M.Measure.wide M.Measure.meant R.Reducer.gives) bytes.now shelf.old index.old cards.old (lent_of (length rows.old) 0) shelf.new index.new cards.new) (λ e. Turned (rules M.Measure.ops M.Measure.wide M.Measure.meant R.Reducer.gives) bytes.now shelf.old index.old cards.old (lent_of (length rows.old) 0) (told e)) }
 {
     let n = count(index);
     match check_place(index, cards, sheet, n) {
@@ -184,12 +184,12 @@ pub fn enter<M: Measure, R: Reducer<M>>(
     rows: &mut [Entry<M>],
     sheet: &[u8],
 ) -> Result<usize, Refusal>
-    ensures same { is_ok result ≡ false → (shelf.new ≡ shelf.old) × (index.exit.now ≡ index.entry.now) × (cards.new ≡ cards.old) }
-    ensures answer { (b : Book M) → Stands (rules M.Measure.ops M.Measure.wide M.Measure.meant R.Reducer.gives) b shelf.old index.entry.now cards.old → Entering (rules M.Measure.ops M.Measure.wide M.Measure.meant R.Reducer.gives) b (sizes_of shelf.old index.entry.now cards.old) (lent_of (length rows.old) 0) sheet.now (verdict (kept_list index.exit.now cards.new) result) }
-    ensures shelf { (b : Book M) → Stands (rules M.Measure.ops M.Measure.wide M.Measure.meant R.Reducer.gives) b shelf.old index.entry.now cards.old → is_ok result ≡ true → shelf.new ≡ overwritten shelf.old (used b) sheet.now }
-    ensures index { (b : Book M) → Stands (rules M.Measure.ops M.Measure.wide M.Measure.meant R.Reducer.gives) b shelf.old index.entry.now cards.old → is_ok result ≡ true → index.exit.now ≡ slice_set index.entry.now (size b) (row_of (with_block b (sheet_of M.Measure.wide sheet.now) (length sheet.now) (kept_list index.exit.now cards.new (size b))) (size b) false) }
-    ensures cards { (b : Book M) → Stands (rules M.Measure.ops M.Measure.wide M.Measure.meant R.Reducer.gives) b shelf.old index.entry.now cards.old → is_ok result ≡ true → cards.new ≡ overwritten cards.old (128 * size b) (card_rows (entry_ops M.Measure.ops).zero (kept_list index.exit.now cards.new (size b))) }
-    ensures book { GoesOn (rules M.Measure.ops M.Measure.wide M.Measure.meant R.Reducer.gives) (ask-enter sheet.now) (lent_of (length rows.old) 0) (reply (λ n. entered n) result) shelf.old index.entry.now cards.old shelf.new index.exit.now cards.new }
+    ensures same { is_ok result ≡ false → (shelf.new ≡ shelf.old) × (index.new ≡ index.old) × (cards.new ≡ cards.old) }
+    ensures answer { (b : Book M) → Stands (rules M.Measure.ops M.Measure.wide M.Measure.meant R.Reducer.gives) b shelf.old index.old cards.old → Entering (rules M.Measure.ops M.Measure.wide M.Measure.meant R.Reducer.gives) b (sizes_of shelf.old index.old cards.old) (lent_of (length rows.old) 0) sheet.now (verdict (kept_list index.new cards.new) result) }
+    ensures shelf { (b : Book M) → Stands (rules M.Measure.ops M.Measure.wide M.Measure.meant R.Reducer.gives) b shelf.old index.old cards.old → is_ok result ≡ true → shelf.new ≡ overwritten shelf.old (used b) sheet.now }
+    ensures index { (b : Book M) → Stands (rules M.Measure.ops M.Measure.wide M.Measure.meant R.Reducer.gives) b shelf.old index.old cards.old → is_ok result ≡ true → index.new ≡ slice_set index.old (size b) (row_of (with_block b (sheet_of M.Measure.wide sheet.now) (length sheet.now) (kept_list index.new cards.new (size b))) (size b) false) }
+    ensures cards { (b : Book M) → Stands (rules M.Measure.ops M.Measure.wide M.Measure.meant R.Reducer.gives) b shelf.old index.old cards.old → is_ok result ≡ true → cards.new ≡ overwritten cards.old (128 * size b) (card_rows (entry_ops M.Measure.ops).zero (kept_list index.new cards.new (size b))) }
+    ensures book { GoesOn (rules M.Measure.ops M.Measure.wide M.Measure.meant R.Reducer.gives) (ask_enter sheet.now) (lent_of (length rows.old) 0) (reply (λ n. entered n) result) shelf.old index.old cards.old shelf.new index.new cards.new }
 {
     let width = width::<M>();
     match check_bytes(sheet, width) {

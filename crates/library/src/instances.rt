@@ -34,7 +34,7 @@ pub(crate) fn missing(sheet: &Checked<'_>, n: usize) -> Option<usize>
 
 // The first instance that names a block whose row is marked.
 pub(crate) fn outdated(index: &[Row], sheet: &Checked<'_>) -> Option<usize>
-    ensures { MatchOption result (Never (Old index.entry.now (says sheet.now))) (First (Old index.entry.now (says sheet.now))) }
+    ensures { MatchOption result (Never (Old index.now (says sheet.now))) (First (Old index.now (says sheet.now))) }
 {
     for k in 0..sheet.count(Item::Instance) {
         if row_at(index, instance_at(sheet, k) as usize).old {

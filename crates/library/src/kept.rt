@@ -14,7 +14,7 @@ use sheets::words::Item;
 
 // How many blocks there are: the number of the first unused row, of 64 at most.
 pub(crate) fn count(index: &[Row]) -> usize
-    ensures { Counted index.entry.now result }
+    ensures { Counted index.now result }
 {
     let mut n: usize = 0;
     while n < 64 && n < index.len() && index[n].used {
@@ -40,14 +40,14 @@ pub(crate) fn no_row() -> Row
 
 // Row n; past the index one that no block has.
 pub(crate) fn row_at(index: &[Row], n: usize) -> Row
-    ensures { result ≡ row_at index.entry.now n }
+    ensures { result ≡ row_at index.now n }
 {
     if n < index.len() { index[n] } else { no_row() }
 }
 
 // The width of the measure's amounts.
 pub(crate) fn width<M: Measure>() -> Width
-    ensures { result.bytes ≡ wide }
+    ensures { result.bytes ≡ M.wide }
 {
     Width::new(M::width()).unwrap()
 }
@@ -80,7 +80,7 @@ pub(crate) fn made_sheet<'a>(bytes: &'a [u8], width: Width) -> Checked<'a>
 
 // Whether a sheet names a block below n whose row is marked.
 pub(crate) fn names_marked(index: &[Row], n: usize, sheet: &Checked<'_>) -> bool
-    ensures { result ≡ leans index.entry.now n (sheet_of sheet.now.width.bytes sheet.now.bytes.now).instances }
+    ensures { result ≡ leans index.now n (sheet_of sheet.now.width.bytes sheet.now.bytes.now).instances }
 {
     for i in 0..sheet.count(Item::Instance) {
         if let Some(block) = sheet.instance(i) {
@@ -95,7 +95,7 @@ pub(crate) fn names_marked(index: &[Row], n: usize, sheet: &Checked<'_>) -> bool
 
 // Whether the kept sheet of a row names a block below n whose row is marked.
 pub(crate) fn leans_on<M: Measure>(shelf: &[u8], row: Row, index: &[Row], n: usize) -> bool
-    ensures { result ≡ leans index.entry.now n (kept_names wide shelf.now row) }
+    ensures { result ≡ leans index.now n (kept_names M.wide shelf.now row) }
 {
     let bytes = kept_bytes(shelf, row);
     if !is_sheet(bytes, width::<M>()) {

@@ -1,4 +1,6 @@
 // The library: blocks kept with their cards in lent tables, and the law over every history of calls.
+#![tactic(auto)]
+
 mod apply;
 mod beneath;
 pub mod calls;

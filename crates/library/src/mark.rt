@@ -8,9 +8,9 @@ use costs::measure::Measure;
 
 // Marks the row of a block and, from the lowest number on, each row whose kept sheet names a marked one: so those of all blocks above it.
 pub(crate) fn mark<M: Measure>(shelf: &[u8], index: &mut [Row], block: usize, count: usize)
-    requires within { count ≤ length index.now }
+    requires within { count ≤ length index.old }
     requires block { block < count }
-    ensures { Marked wide shelf.now block count index.entry.now index.exit.now }
+    ensures { Marked M.wide shelf.now block count index.old index.new }
 {
     for n in 0..count {
         if n == block || leans_on::<M>(shelf, row_at(index, n), index, n) {

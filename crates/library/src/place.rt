@@ -43,7 +43,7 @@ fn check_wires<M: Measure>(
     cards: &[Entry<M>],
     sheet: &Checked<'_>,
 ) -> Result<(), Refusal>
-    ensures { MatchResult result (λ _. NamedNetwork (network_of (says sheet.now) (faces_kept index.entry.now (says sheet.now).instances)) × Distinct (says sheet.now).connections) (λ e. Miswired (network_of (says sheet.now) (faces_kept index.entry.now (says sheet.now).instances)) sheet.now.bytes.now (told e)) }
+    ensures { MatchResult result (λ _. NamedNetwork (network_of (says sheet.now) (faces_kept index.now (says sheet.now).instances)) × Distinct (says sheet.now).connections) (λ e. Miswired (network_of (says sheet.now) (faces_kept index.now (says sheet.now).instances)) sheet.now.bytes.now (told e)) }
 {
     let mut names = [0; 16];
     let n = read_names(sheet, &mut names);
@@ -64,7 +64,7 @@ pub(crate) fn check_names<M: Measure>(
     cards: &[Entry<M>],
     sheet: &Checked<'_>,
 ) -> Result<(), Refusal>
-    ensures { MatchResult result (λ _. NamedBy (faces_kept index.entry.now (says sheet.now).instances) (says sheet.now) (says sheet.now).face.kind) (λ e. MisnamedBy (faces_kept index.entry.now (says sheet.now).instances) sheet.now.width.bytes sheet.now.bytes.now (says sheet.now).face.kind (told e)) }
+    ensures { MatchResult result (λ _. NamedBy (faces_kept index.now (says sheet.now).instances) (says sheet.now) (says sheet.now).face.kind) (λ e. MisnamedBy (faces_kept index.now (says sheet.now).instances) sheet.now.width.bytes sheet.now.bytes.now (says sheet.now).face.kind (told e)) }
 {
     match sheet.interface().kind {
         Kind::Composite => check_wires(index, cards, sheet),
@@ -79,7 +79,7 @@ pub(crate) fn check_place<M: Measure>(
     sheet: &Checked<'_>,
     n: usize,
 ) -> Result<(), Refusal>
-    ensures { MatchResult result (λ _. Placeable (blocks_kept n index.entry.now cards.now) (says sheet.now)) (λ e. Unplaced (blocks_kept n index.entry.now cards.now) sheet.now.width.bytes sheet.now.bytes.now (told e)) }
+    ensures { MatchResult result (λ _. Placeable (blocks_kept n index.now cards.now) (says sheet.now)) (λ e. Unplaced (blocks_kept n index.now cards.now) sheet.now.width.bytes sheet.now.bytes.now (told e)) }
 {
     if let Some(place) = missing(sheet, n) {
         return Err(Refusal::NoBlock { place });
@@ -92,7 +92,7 @@ pub(crate) fn check_place<M: Measure>(
 
 // Whether the block of instance i keeps the limits of every block: at most eight inputs, and 1 to 16 entries for each event.
 fn is_block<M: Measure, B: Beneath<M>>(beneath: &B, i: usize) -> bool
-    ensures { Decides result (((faces beneath.now i).inputs ≤ 8) × ((f : ℕ) → f < (faces beneath.now i).inputs → Sized (cards beneath.now i f))) }
+    ensures { Decides result (((B.faces beneath.now i).inputs ≤ 8) × ((f : ℕ) → f < (B.faces beneath.now i).inputs → Sized (B.cards beneath.now i f))) }
 {
     let inputs = beneath.face(i).inputs;
     if inputs > 8 {
@@ -109,7 +109,7 @@ fn is_block<M: Measure, B: Beneath<M>>(beneath: &B, i: usize) -> bool
 
 // Whether all blocks beneath do. Only tables that `new` did not begin can have another.
 fn is_fit<M: Measure, B: Beneath<M>>(sheet: &Checked<'_>, beneath: &B) -> bool
-    ensures { Decides result (Fit (network_of (says sheet.now) (faces beneath.now)) (cards beneath.now)) }
+    ensures { Decides result (Fit (network_of (says sheet.now) (B.faces beneath.now)) (B.cards beneath.now)) }
 {
     for i in 0..sheet.count(Item::Instance) {
         if !is_block(beneath, i) {
@@ -151,7 +151,7 @@ fn work_wires<M: Measure, R: Reducer<M>>(
     requires block { (says sheet.now).face.kind ≡ Composite }
     requires rows { 2816 ≤ length rows.old }
     requires card { 256 ≤ length card.old }
-    ensures answer { Fit (network_of (says sheet.now) (faces_kept index.entry.now (says sheet.now).instances)) (cards_kept index.entry.now cards.now (says sheet.now).instances) → MatchResult result (λ lens. CardOver (rules M.Measure.ops M.Measure.wide M.Measure.meant R.Reducer.gives) (faces_kept index.entry.now (says sheet.now).instances) (cards_kept index.entry.now cards.now (says sheet.now).instances) (says sheet.now) (list_at card.new lens)) (λ e. StopsBy (rules M.Measure.ops M.Measure.wide M.Measure.meant R.Reducer.gives) (faces_kept index.entry.now (says sheet.now).instances) (cards_kept index.entry.now cards.now (says sheet.now).instances) (says sheet.now) (says sheet.now).face.kind (told e)) }
+    ensures answer { Fit (network_of (says sheet.now) (faces_kept index.now (says sheet.now).instances)) (cards_kept index.now cards.now (says sheet.now).instances) → MatchResult result (λ lens. CardOver (rules M.Measure.ops M.Measure.wide M.Measure.meant R.Reducer.gives) (faces_kept index.now (says sheet.now).instances) (cards_kept index.now cards.now (says sheet.now).instances) (says sheet.now) (list_at card.new lens)) (λ e. StopsBy (rules M.Measure.ops M.Measure.wide M.Measure.meant R.Reducer.gives) (faces_kept index.now (says sheet.now).instances) (cards_kept index.now cards.now (says sheet.now).instances) (says sheet.now) (says sheet.now).face.kind (told e)) }
     ensures rows { IfOk result (λ lens. CardIn (entry_ops M.Measure.ops).zero (says sheet.now).face.inputs card.new lens) }
 {
     let mut names = [0; 16];
@@ -182,7 +182,7 @@ pub(crate) fn work<M: Measure, R: Reducer<M>>(
     requires named { NamedBy (faces_kept index.now (says sheet.now).instances) (says sheet.now) (says sheet.now).face.kind }
     requires rows { 2816 ≤ length rows.old }
     requires card { 256 ≤ length card.old }
-    ensures answer { Fit (network_of (says sheet.now) (faces_kept index.entry.now (says sheet.now).instances)) (cards_kept index.entry.now cards.now (says sheet.now).instances) → MatchResult result (λ lens. CardOver (rules M.Measure.ops M.Measure.wide M.Measure.meant R.Reducer.gives) (faces_kept index.entry.now (says sheet.now).instances) (cards_kept index.entry.now cards.now (says sheet.now).instances) (says sheet.now) (list_at card.new lens)) (λ e. StopsBy (rules M.Measure.ops M.Measure.wide M.Measure.meant R.Reducer.gives) (faces_kept index.entry.now (says sheet.now).instances) (cards_kept index.entry.now cards.now (says sheet.now).instances) (says sheet.now) (says sheet.now).face.kind (told e)) }
+    ensures answer { Fit (network_of (says sheet.now) (faces_kept index.now (says sheet.now).instances)) (cards_kept index.now cards.now (says sheet.now).instances) → MatchResult result (λ lens. CardOver (rules M.Measure.ops M.Measure.wide M.Measure.meant R.Reducer.gives) (faces_kept index.now (says sheet.now).instances) (cards_kept index.now cards.now (says sheet.now).instances) (says sheet.now) (list_at card.new lens)) (λ e. StopsBy (rules M.Measure.ops M.Measure.wide M.Measure.meant R.Reducer.gives) (faces_kept index.now (says sheet.now).instances) (cards_kept index.now cards.now (says sheet.now).instances) (says sheet.now) (says sheet.now).face.kind (told e)) }
     ensures rows { IfOk result (λ lens. CardIn (entry_ops M.Measure.ops).zero (says sheet.now).face.inputs card.new lens) }
 {
     match sheet.interface().kind {

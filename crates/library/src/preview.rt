@@ -11,7 +11,7 @@ ghost use Rattle.library.specs.Memory.{Stands};
 ghost use Rattle.library.specs.Placing.{lent_of, faces_kept, Previewed};
 ghost use Rattle.library.specs.Refusals.{told};
 ghost use Rattle.library.specs.Replies.{verdict, reply};
-ghost use Rattle.library.specs.Steps.{PreviewLacks, Previewing, preview as ask-preview, previewed};
+ghost use Rattle.library.specs.Steps.{PreviewLacks, Previewing, preview as ask_preview, previewed};
 ghost use Rattle.library.specs.Tables.{lens_of, card_rows, overwritten, blocks_kept};
 
 use crate::kept::count;
@@ -35,7 +35,7 @@ fn preview_placed<M: Measure, R: Reducer<M>>(
     requires width { sheet.now.width.bytes ≡ M.Measure.wide }
     requires named { NamedBy (faces_kept index.now (says sheet.now).instances) (says sheet.now) (says sheet.now).face.kind }
     ensures same { is_ok result ≡ false → out.new ≡ out.old }
-    ensures found { MatchResult result (Previewed (rules M.Measure.ops M.Measure.wide M.Measure.meant R.Reducer.gives) (blocks_kept 0 index.entry.now cards.now) (says sheet.now) (lent_of (length rows.old) (length out.old)) out.old out.new) (λ e. Fit (network (blocks_kept 0 index.entry.now cards.now) (says sheet.now)) (cards_beneath (blocks_kept 0 index.entry.now cards.now) (says sheet.now)) → Then (FirstAt 7 (PreviewLacks (lent_of (length rows.old) (length out.old)))) (Never (PreviewLacks (lent_of (length rows.old) (length out.old)))) (Working (rules M.Measure.ops M.Measure.wide M.Measure.meant R.Reducer.gives) (blocks_kept 0 index.entry.now cards.now) (says sheet.now)) (turned (told e))) }
+    ensures found { MatchResult result (Previewed (rules M.Measure.ops M.Measure.wide M.Measure.meant R.Reducer.gives) (blocks_kept 0 index.now cards.now) (says sheet.now) (lent_of (length rows.old) (length out.old)) out.old out.new) (λ e. Fit (network (blocks_kept 0 index.now cards.now) (says sheet.now)) (cards_beneath (blocks_kept 0 index.now cards.now) (says sheet.now)) → Then (FirstAt 7 (PreviewLacks (lent_of (length rows.old) (length out.old)))) (Never (PreviewLacks (lent_of (length rows.old) (length out.old)))) (Working (rules M.Measure.ops M.Measure.wide M.Measure.meant R.Reducer.gives) (blocks_kept 0 index.now cards.now) (says sheet.now)) (turned (told e))) }
 {
     if rows.len() < 3072 {
         return Err(Refusal::NoRoom { table: Table::Rows });
@@ -65,9 +65,9 @@ pub fn preview<M: Measure, R: Reducer<M>>(
     out: &mut [Entry<M>],
 ) -> Result<[usize; 8], Refusal>
     ensures same { is_ok result ≡ false → out.new ≡ out.old }
-    ensures answer { (b : Book M) → Stands (rules M.Measure.ops M.Measure.wide M.Measure.meant R.Reducer.gives) b shelf.now index.entry.now cards.now → Previewing (rules M.Measure.ops M.Measure.wide M.Measure.meant R.Reducer.gives) b (lent_of (length rows.old) (length out.old)) sheet.now.width.bytes sheet.now.bytes.now (verdict (list_at out.new) result) }
+    ensures answer { (b : Book M) → Stands (rules M.Measure.ops M.Measure.wide M.Measure.meant R.Reducer.gives) b shelf.now index.now cards.now → Previewing (rules M.Measure.ops M.Measure.wide M.Measure.meant R.Reducer.gives) b (lent_of (length rows.old) (length out.old)) sheet.now.width.bytes sheet.now.bytes.now (verdict (list_at out.new) result) }
     ensures rows { MatchResult result (λ lens. (out.new ≡ overwritten out.old 0 (card_rows (entry_ops M.Measure.ops).zero (list_at out.new lens))) × (lens ≡ lens_of (list_at out.new lens))) (λ _. out.new ≡ out.old) }
-    ensures book { GoesOn (rules M.Measure.ops M.Measure.wide M.Measure.meant R.Reducer.gives) (ask-preview sheet.now.width.bytes sheet.now.bytes.now) (lent_of (length rows.old) (length out.old)) (reply (λ lens. previewed (list_at out.new lens)) result) shelf.now index.entry.now cards.now shelf.now index.entry.now cards.now }
+    ensures book { GoesOn (rules M.Measure.ops M.Measure.wide M.Measure.meant R.Reducer.gives) (ask_preview sheet.now.width.bytes sheet.now.bytes.now) (lent_of (length rows.old) (length out.old)) (reply (λ lens. previewed (list_at out.new lens)) result) shelf.now index.now cards.now shelf.now index.now cards.now }
 {
     let given = sheet.width().bytes;
     if given != M::width() {

@@ -27,8 +27,8 @@ pub fn replay<M: Measure, R: Reducer<M>>(
     answers: &mut [Answer],
 ) -> usize
     ensures count { result ≡ min (length calls.now) (length answers.old) }
-    ensures law { (b : Book M) × (History (rules M.Measure.ops M.Measure.wide M.Measure.meant R.Reducer.gives) (sizes_of shelf.old index.entry.now cards.old) (asks (length rows.old) (length out.old) (take result calls.now)) (replies (take result calls.now) (take result answers.new) out.new) b × (Stands (rules M.Measure.ops M.Measure.wide M.Measure.meant R.Reducer.gives) b shelf.new index.exit.now cards.new × Sound (rules M.Measure.ops M.Measure.wide M.Measure.meant R.Reducer.gives) b index.exit.now cards.new)) }
-    ensures fixed { (b : Book M) → Stands (rules M.Measure.ops M.Measure.wide M.Measure.meant R.Reducer.gives) b shelf.new index.exit.now cards.new → Fixed (rules M.Measure.ops M.Measure.wide M.Measure.meant R.Reducer.gives) b }
+    ensures law { (b : Book M) × (History (rules M.Measure.ops M.Measure.wide M.Measure.meant R.Reducer.gives) (sizes_of shelf.old index.old cards.old) (asks (length rows.old) (length out.old) (take result calls.now)) (replies (take result calls.now) (take result answers.new) out.new) b × (Stands (rules M.Measure.ops M.Measure.wide M.Measure.meant R.Reducer.gives) b shelf.new index.new cards.new × Sound (rules M.Measure.ops M.Measure.wide M.Measure.meant R.Reducer.gives) b index.new cards.new)) }
+    ensures fixed { (b : Book M) → Stands (rules M.Measure.ops M.Measure.wide M.Measure.meant R.Reducer.gives) b shelf.new index.new cards.new → Fixed (rules M.Measure.ops M.Measure.wide M.Measure.meant R.Reducer.gives) b }
     ensures answers { drop result answers.new ≡ drop result answers.old }
     ensures out { drop (cursor (length out.old) (take result calls.now)) out.new ≡ drop (cursor (length out.old) (take result calls.now)) out.old }
 {

@@ -7,7 +7,7 @@ ghost use Rattle.library.specs.Kept.{KeptAmount, NoAmount};
 ghost use Rattle.library.specs.Law.{GoesOn};
 ghost use Rattle.library.specs.Memory.{Stands};
 ghost use Rattle.library.specs.Replies.{verdict, reply};
-ghost use Rattle.library.specs.Steps.{Retiming, retime as ask-retime, done};
+ghost use Rattle.library.specs.Steps.{Retiming, retime as ask_retime, done};
 ghost use Rattle.library.specs.Tables.{Remarked, Replaced};
 
 use crate::kept::{count, is_sheet, kept_bytes, made_sheet, row_at, width};
@@ -20,7 +20,7 @@ use costs::reducer::Reducer;
 
 // Where the amount of algorithm k stands in a row's kept sheet, in bytes from the sheet's first; none if there is no such amount.
 fn amount_place<M: Measure>(shelf: &[u8], row: Row, k: usize) -> Option<usize>
-    ensures { MatchOption result (NoAmount wide shelf.now row k) (KeptAmount wide shelf.now row k) }
+    ensures { MatchOption result (NoAmount M.wide shelf.now row k) (KeptAmount M.wide shelf.now row k) }
 {
     let bytes = kept_bytes(shelf, row);
     if !is_sheet(bytes, width::<M>()) {
@@ -41,11 +41,11 @@ pub fn retime<M: Measure, R: Reducer<M>>(
     algorithm: usize,
     amount: &[u8],
 ) -> Result<(), Refusal>
-    ensures same { is_ok result ≡ false → (shelf.new ≡ shelf.old) × (index.exit.now ≡ index.entry.now) }
-    ensures answer { (b : Book M) (cards : List (Entry M)) → Stands (rules M.Measure.ops M.Measure.wide M.Measure.meant R.Reducer.gives) b shelf.old index.entry.now cards → Retiming (rules M.Measure.ops M.Measure.wide M.Measure.meant R.Reducer.gives) b block algorithm amount.now (verdict (λ _. tt) result) }
-    ensures shelf { (b : Book M) (cards : List (Entry M)) → Stands (rules M.Measure.ops M.Measure.wide M.Measure.meant R.Reducer.gives) b shelf.old index.entry.now cards → is_ok result ≡ true → Replaced M.Measure.wide b block algorithm amount.now shelf.old shelf.new }
-    ensures index { (b : Book M) (cards : List (Entry M)) → Stands (rules M.Measure.ops M.Measure.wide M.Measure.meant R.Reducer.gives) b shelf.old index.entry.now cards → is_ok result ≡ true → Remarked b block index.entry.now index.exit.now }
-    ensures book { (cards : List (Entry M)) (lent : Lent) → GoesOn (rules M.Measure.ops M.Measure.wide M.Measure.meant R.Reducer.gives) (ask-retime block algorithm amount.now) lent (reply (λ _. done) result) shelf.old index.entry.now cards shelf.new index.exit.now cards }
+    ensures same { is_ok result ≡ false → (shelf.new ≡ shelf.old) × (index.new ≡ index.old) }
+    ensures answer { (b : Book M) (cards : List (Entry M)) → Stands (rules M.Measure.ops M.Measure.wide M.Measure.meant R.Reducer.gives) b shelf.old index.old cards → Retiming (rules M.Measure.ops M.Measure.wide M.Measure.meant R.Reducer.gives) b block algorithm amount.now (verdict (λ _. tt) result) }
+    ensures shelf { (b : Book M) (cards : List (Entry M)) → Stands (rules M.Measure.ops M.Measure.wide M.Measure.meant R.Reducer.gives) b shelf.old index.old cards → is_ok result ≡ true → Replaced M.Measure.wide b block algorithm amount.now shelf.old shelf.new }
+    ensures index { (b : Book M) (cards : List (Entry M)) → Stands (rules M.Measure.ops M.Measure.wide M.Measure.meant R.Reducer.gives) b shelf.old index.old cards → is_ok result ≡ true → Remarked b block index.old index.new }
+    ensures book { (cards : List (Entry M)) (lent : Lent) → GoesOn (rules M.Measure.ops M.Measure.wide M.Measure.meant R.Reducer.gives) (ask_retime block algorithm amount.now) lent (reply (λ _. done) result) shelf.old index.old cards shelf.new index.new cards }
 {
     let given = amount.len();
     if given != M::width() {

@@ -10,7 +10,7 @@ ghost use Rattle.library.specs.Memory.{Stands};
 ghost use Rattle.library.specs.Placing.{lent_of, faces_kept, Redone, Regular, Renewed, Reworks};
 ghost use Rattle.library.specs.Refusals.{told};
 ghost use Rattle.library.specs.Replies.{verdict, reply};
-ghost use Rattle.library.specs.Steps.{Renewing, rework as ask-rework, done};
+ghost use Rattle.library.specs.Steps.{Renewing, rework as ask_rework, done};
 ghost use Rattle.library.specs.Tables.{row_at, row_of, card_rows, overwritten, blocks_kept, kept_list};
 
 use crate::instances::outdated;
@@ -26,7 +26,7 @@ use sheets::opened::Checked;
 
 // Whether the card of block n is out of date.
 fn is_old(index: &[Row], n: usize) -> bool
-    ensures { result ≡ (row_at index.entry.now n).old }
+    ensures { result ≡ (row_at index.now n).old }
 {
     row_at(index, n).old
 }
@@ -40,11 +40,11 @@ fn redo<M: Measure, R: Reducer<M>>(
     block: usize,
 ) -> Result<(), Refusal>
     requires width { sheet.now.width.bytes ≡ M.Measure.wide }
-    requires named { NamedBy (faces_kept index.now (says sheet.now).instances) (says sheet.now) (says sheet.now).face.kind }
+    requires named { NamedBy (faces_kept index.old (says sheet.now).instances) (says sheet.now) (says sheet.now).face.kind }
     requires rows { 3072 ≤ length rows.old }
-    requires room { (block < length index.now) × (128 * block + 128 ≤ length cards.old) }
-    ensures same { is_ok result ≡ false → (index.exit.now ≡ index.entry.now) × (cards.new ≡ cards.old) }
-    ensures redone { MatchResult result (λ _. Redone (rules M.Measure.ops M.Measure.wide M.Measure.meant R.Reducer.gives) (blocks_kept 0 index.entry.now cards.old) (says sheet.now) block index.entry.now cards.old index.exit.now cards.new) (λ e. Fit (network (blocks_kept 0 index.entry.now cards.old) (says sheet.now)) (cards_beneath (blocks_kept 0 index.entry.now cards.old) (says sheet.now)) → Working (rules M.Measure.ops M.Measure.wide M.Measure.meant R.Reducer.gives) (blocks_kept 0 index.entry.now cards.old) (says sheet.now) (turned (told e))) }
+    requires room { (block < length index.old) × (128 * block + 128 ≤ length cards.old) }
+    ensures same { is_ok result ≡ false → (index.new ≡ index.old) × (cards.new ≡ cards.old) }
+    ensures redone { MatchResult result (λ _. Redone (rules M.Measure.ops M.Measure.wide M.Measure.meant R.Reducer.gives) (blocks_kept 0 index.old cards.old) (says sheet.now) block index.old cards.old index.new cards.new) (λ e. Fit (network (blocks_kept 0 index.old cards.old) (says sheet.now)) (cards_beneath (blocks_kept 0 index.old cards.old) (says sheet.now)) → Working (rules M.Measure.ops M.Measure.wide M.Measure.meant R.Reducer.gives) (blocks_kept 0 index.old cards.old) (says sheet.now) (turned (told e))) }
 {
     let (space, card) = rows.split_at_mut(2816);
     match work::<M, R>(index, cards, sheet, space, card) {
@@ -70,9 +70,9 @@ fn renew<M: Measure, R: Reducer<M>>(
     block: usize,
 ) -> Result<(), Refusal>
     requires width { sheet.now.width.bytes ≡ M.Measure.wide }
-    requires there { (block < 64) × (block < length index.now) }
-    ensures same { is_ok result ≡ false → (index.exit.now ≡ index.entry.now) × (cards.new ≡ cards.old) }
-    ensures found { (k : ℕ) → MatchResult result (λ _. Renewed (rules M.Measure.ops M.Measure.wide M.Measure.meant R.Reducer.gives) (says sheet.now) k index.entry.now cards.old (lent_of (length rows.old) 0) block index.exit.now cards.new) (λ e. Regular (rules M.Measure.ops M.Measure.wide M.Measure.meant R.Reducer.gives) (says sheet.now) k index.entry.now cards.old (lent_of (length rows.old) 0) block → Renewing (rules M.Measure.ops M.Measure.wide M.Measure.meant R.Reducer.gives) (blocks_kept k index.entry.now cards.old) (says sheet.now) (lent_of (length rows.old) 0) (turned (told e))) }
+    requires there { (block < 64) × (block < length index.old) }
+    ensures same { is_ok result ≡ false → (index.new ≡ index.old) × (cards.new ≡ cards.old) }
+    ensures found { (k : ℕ) → MatchResult result (λ _. Renewed (rules M.Measure.ops M.Measure.wide M.Measure.meant R.Reducer.gives) (says sheet.now) k index.old cards.old (lent_of (length rows.old) 0) block index.new cards.new) (λ e. Regular (rules M.Measure.ops M.Measure.wide M.Measure.meant R.Reducer.gives) (says sheet.now) k index.old cards.old (lent_of (length rows.old) 0) block → Renewing (rules M.Measure.ops M.Measure.wide M.Measure.meant R.Reducer.gives) (blocks_kept k index.old cards.old) (says sheet.now) (lent_of (length rows.old) 0) (turned (told e))) }
 {
     if let Some(place) = outdated(index, sheet) {
         return Err(Refusal::OutOfDate { place });
@@ -100,11 +100,11 @@ pub fn rework<M: Measure, R: Reducer<M>>(
     rows: &mut [Entry<M>],
     block: usize,
 ) -> Result<(), Refusal>
-    ensures same { is_ok result ≡ false → (index.exit.now ≡ index.entry.now) × (cards.new ≡ cards.old) }
-    ensures answer { (b : Book M) → Stands (rules M.Measure.ops M.Measure.wide M.Measure.meant R.Reducer.gives) b shelf.now index.entry.now cards.old → Reworks (rules M.Measure.ops M.Measure.wide M.Measure.meant R.Reducer.gives) b (lent_of (length rows.old) 0) block (verdict (λ _. kept_list index.exit.now cards.new block) result) }
-    ensures index { (b : Book M) → Stands (rules M.Measure.ops M.Measure.wide M.Measure.meant R.Reducer.gives) b shelf.now index.entry.now cards.old → is_ok result ≡ true → ((Stale b block → ⊥) → index.exit.now ≡ index.entry.now) × (Stale b block → index.exit.now ≡ slice_set index.entry.now block (row_of (with_work b block (kept_list index.exit.now cards.new block)) block false)) }
-    ensures cards { (b : Book M) → Stands (rules M.Measure.ops M.Measure.wide M.Measure.meant R.Reducer.gives) b shelf.now index.entry.now cards.old → is_ok result ≡ true → ((Stale b block → ⊥) → cards.new ≡ cards.old) × (Stale b block → cards.new ≡ overwritten cards.old (128 * block) (card_rows (entry_ops M.Measure.ops).zero (kept_list index.exit.now cards.new block))) }
-    ensures book { GoesOn (rules M.Measure.ops M.Measure.wide M.Measure.meant R.Reducer.gives) (ask-rework block) (lent_of (length rows.old) 0) (reply (λ _. done) result) shelf.now index.entry.now cards.old shelf.now index.exit.now cards.new }
+    ensures same { is_ok result ≡ false → (index.new ≡ index.old) × (cards.new ≡ cards.old) }
+    ensures answer { (b : Book M) → Stands (rules M.Measure.ops M.Measure.wide M.Measure.meant R.Reducer.gives) b shelf.now index.old cards.old → Reworks (rules M.Measure.ops M.Measure.wide M.Measure.meant R.Reducer.gives) b (lent_of (length rows.old) 0) block (verdict (λ _. kept_list index.new cards.new block) result) }
+    ensures index { (b : Book M) → Stands (rules M.Measure.ops M.Measure.wide M.Measure.meant R.Reducer.gives) b shelf.now index.old cards.old → is_ok result ≡ true → ((Stale b block → ⊥) → index.new ≡ index.old) × (Stale b block → index.new ≡ slice_set index.old block (row_of (with_work b block (kept_list index.new cards.new block)) block false)) }
+    ensures cards { (b : Book M) → Stands (rules M.Measure.ops M.Measure.wide M.Measure.meant R.Reducer.gives) b shelf.now index.old cards.old → is_ok result ≡ true → ((Stale b block → ⊥) → cards.new ≡ cards.old) × (Stale b block → cards.new ≡ overwritten cards.old (128 * block) (card_rows (entry_ops M.Measure.ops).zero (kept_list index.new cards.new block))) }
+    ensures book { GoesOn (rules M.Measure.ops M.Measure.wide M.Measure.meant R.Reducer.gives) (ask_rework block) (lent_of (length rows.old) 0) (reply (λ _. done) result) shelf.now index.old cards.old shelf.now index.new cards.new }
 {
     let n = count(index);
     if block >= n {

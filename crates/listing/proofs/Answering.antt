@@ -1,11 +1,11 @@
 -- The lines of answers and marks, one more. Assumes nothing.
-use Rattle.std.proofs.Common.{◌≡◌, ℕ, ◌+◌, ◌<◌, ◌≤◌, min, Bool, true, false, cond, List, [], ◌∷◌, ◌++◌, length, get_or, take, drop, None, codes, sym, refl, ap, ◌∙◌, ap₂, ⊎_elim, append_assoc, arith}
+use Rattle.std.proofs.Common.{◌≡◌, ℕ, ◌+◌, ◌<◌, ◌≤◌, min, true, false, cond, List, [], ◌∷◌, ◌++◌, length, get_or, take, drop, None, codes, sym, refl, ap, ◌∙◌, ap₂, ⊎_elim, append_assoc, arith}
 use Rattle.std.proofs.lemmas.List.{append-nil, take_all, drop_all, drop_more, get_or-take, length-take}
 use Rattle.std.proofs.lemmas.Bool.{cases_lt}
 use Rattle.costs.specs.declared.entry.Entry.{Entry}
 use Rattle.networks.specs.Rows.{list_at}
 use Rattle.library.specs.Calls.{asked, taken}
-use Rattle.library.specs.Refusals.{Told, told}
+use Rattle.library.specs.Refusals.{told}
 use Rattle.library.specs.Steps.{Ask}
 use Rattle.library.specs.declared.calls.Answer.{Answer}
 use Rattle.library.specs.declared.calls.Answer.TheVariants.{Previewed, Shown, Refused}

@@ -28,10 +28,10 @@ fn plan_marked<'x, M: Measure, B: Beneath<M>>(
     marks: &mut [bool],
     order: &mut [usize],
 ) -> Result<usize, usize>
-    requires given { Given (net_of net.now (faces beneath.now)) (cards beneath.now) }
+    requires given { Given (net_of net.now (B.faces beneath.now)) (B.cards beneath.now) }
     requires marks { length marks.old ≡ 128 }
     requires order { length order.old ≡ 128 }
-    ensures { MatchResult result (λ k. (k ≤ 128) × WorkedIn (net_of net.now (faces beneath.now)) (cards beneath.now) (take k order.new)) (CircleAt (net_of net.now (faces beneath.now)) (cards beneath.now)) }
+    ensures { MatchResult result (λ k. (k ≤ 128) × WorkedIn (net_of net.now (B.faces beneath.now)) (B.cards beneath.now) (take k order.new)) (CircleAt (net_of net.now (B.faces beneath.now)) (B.cards beneath.now)) }
 {
     let n = 8 * net.instances;
     let graph = Places {
@@ -47,9 +47,9 @@ fn plan_places<M: Measure, B: Beneath<M>>(
     beneath: &B,
     order: &mut [usize],
 ) -> Result<usize, usize>
-    requires given { Given (net_of net.now (faces beneath.now)) (cards beneath.now) }
+    requires given { Given (net_of net.now (B.faces beneath.now)) (B.cards beneath.now) }
     requires order { length order.old ≡ 128 }
-    ensures { MatchResult result (λ k. (k ≤ 128) × WorkedIn (net_of net.now (faces beneath.now)) (cards beneath.now) (take k order.new)) (CircleAt (net_of net.now (faces beneath.now)) (cards beneath.now)) }
+    ensures { MatchResult result (λ k. (k ≤ 128) × WorkedIn (net_of net.now (B.faces beneath.now)) (B.cards beneath.now) (take k order.new)) (CircleAt (net_of net.now (B.faces beneath.now)) (B.cards beneath.now)) }
 {
     let mut marks = [false; 128];
     plan_marked(&*net, &*beneath, &mut marks, order)
@@ -61,9 +61,9 @@ fn plan_checked<M: Measure, R: Reducer<M>, B: Beneath<M>>(
     beneath: &B,
     order: &mut [usize],
 ) -> Result<usize, Refusal>
-    requires given { Given (net_of net.now (faces beneath.now)) (cards beneath.now) }
+    requires given { Given (net_of net.now (B.faces beneath.now)) (B.cards beneath.now) }
     requires order { length order.old ≡ 128 }
-    ensures { MatchResult result (λ k. (k ≤ 128) × WorkedIn (net_of net.now (faces beneath.now)) (cards beneath.now) (take k order.new) × NoneFull (net_of net.now (faces beneath.now)) (cards beneath.now)) (Unworked M.Measure.ops R.Reducer.gives (net_of net.now (faces beneath.now)) (cards beneath.now)) }
+    ensures { MatchResult result (λ k. (k ≤ 128) × WorkedIn (net_of net.now (B.faces beneath.now)) (B.cards beneath.now) (take k order.new) × NoneFull (net_of net.now (B.faces beneath.now)) (B.cards beneath.now)) (Unworked M.Measure.ops R.Reducer.gives (net_of net.now (B.faces beneath.now)) (B.cards beneath.now)) }
 {
     match plan_places(net, beneath, order) {
         Err(place) => Err(Refusal::Circle { place }),
@@ -95,11 +95,11 @@ fn work_table<M: Measure, R: Reducer<M>, B: Beneath<M>>(
     joined: &mut [Entry<M>],
     gathered: &mut [Entry<M>],
 ) -> Result<(), Refusal>
-    requires given { Given (net_of net.now (faces beneath.now)) (cards beneath.now) }
+    requires given { Given (net_of net.now (B.faces beneath.now)) (B.cards beneath.now) }
     requires order { length order.old ≡ 128 }
     requires lists { (length lens.old ≡ 128) × (2048 ≤ length lists.old) }
     requires room { (256 ≤ length acc.old) × (256 ≤ length src.old) × (length joined.old ≡ 256) × (256 ≤ length gathered.old) }
-    ensures { MatchResult result (λ _. Lent lists.new lens.new × Worked M.Measure.ops R.Reducer.gives (net_of net.now (faces beneath.now)) (cards beneath.now) (table_at lists.new lens.new) × NoneFull (net_of net.now (faces beneath.now)) (cards beneath.now)) (Unworked M.Measure.ops R.Reducer.gives (net_of net.now (faces beneath.now)) (cards beneath.now)) }
+    ensures { MatchResult result (λ _. Lent lists.new lens.new × Worked M.Measure.ops R.Reducer.gives (net_of net.now (B.faces beneath.now)) (B.cards beneath.now) (table_at lists.new lens.new) × NoneFull (net_of net.now (B.faces beneath.now)) (B.cards beneath.now)) (Unworked M.Measure.ops R.Reducer.gives (net_of net.now (B.faces beneath.now)) (B.cards beneath.now)) }
 {
     match plan_checked::<M, R, B>(net, beneath, order) {
         Err(e) => Err(e),
@@ -136,12 +136,12 @@ fn work_card<M: Measure, R: Reducer<M>, B: Beneath<M>>(
     gathered: &mut [Entry<M>],
     ends: &mut [usize],
 ) -> Result<(), Refusal>
-    requires given { Given (net_of net.now (faces beneath.now)) (cards beneath.now) }
+    requires given { Given (net_of net.now (B.faces beneath.now)) (B.cards beneath.now) }
     requires order { length order.old ≡ 128 }
     requires lists { (length lens.old ≡ 128) × (2048 ≤ length lists.old) }
     requires room { (256 ≤ length acc.old) × (256 ≤ length src.old) × (length joined.old ≡ 256) × (256 ≤ length gathered.old) }
     requires ends { length ends.old ≡ 8 }
-    ensures card { MatchResult result (λ _. Carded M.Measure.ops R.Reducer.gives (net_of net.now (faces beneath.now)) (cards beneath.now) (list_at gathered.new ends.new)) (Unworked M.Measure.ops R.Reducer.gives (net_of net.now (faces beneath.now)) (cards beneath.now)) }
+    ensures card { MatchResult result (λ _. Carded M.Measure.ops R.Reducer.gives (net_of net.now (B.faces beneath.now)) (B.cards beneath.now) (list_at gathered.new ends.new)) (Unworked M.Measure.ops R.Reducer.gives (net_of net.now (B.faces beneath.now)) (B.cards beneath.now)) }
     ensures finished { OnOk result (Finished (entry_ops M.Measure.ops).zero net.now.inputs gathered.new ends.new) }
 {
     work_table::<M, R, B>(net, beneath, order, lists, lens, acc, src, joined, gathered)?;
@@ -172,10 +172,10 @@ pub(crate) fn work_rows<M: Measure, R: Reducer<M>, B: Beneath<M>>(
     joined: &mut [Entry<M>],
     gathered: &mut [Entry<M>],
 ) -> Result<[usize; 8], Refusal>
-    requires given { Given (net_of net.now (faces beneath.now)) (cards beneath.now) }
+    requires given { Given (net_of net.now (B.faces beneath.now)) (B.cards beneath.now) }
     requires lists { 2048 ≤ length lists.old }
     requires room { (256 ≤ length acc.old) × (256 ≤ length src.old) × (length joined.old ≡ 256) × (256 ≤ length gathered.old) }
-    ensures card { MatchResult result (λ ends. Carded M.Measure.ops R.Reducer.gives (net_of net.now (faces beneath.now)) (cards beneath.now) (list_at gathered.new ends)) (Unworked M.Measure.ops R.Reducer.gives (net_of net.now (faces beneath.now)) (cards beneath.now)) }
+    ensures card { MatchResult result (λ ends. Carded M.Measure.ops R.Reducer.gives (net_of net.now (B.faces beneath.now)) (B.cards beneath.now) (list_at gathered.new ends)) (Unworked M.Measure.ops R.Reducer.gives (net_of net.now (B.faces beneath.now)) (B.cards beneath.now)) }
     ensures finished { IfOk result (λ ends. Finished (entry_ops M.Measure.ops).zero net.now.inputs gathered.new ends × (length ends ≡ 8)) }
 {
     let mut lens = [0; 128];
@@ -205,10 +205,10 @@ fn work<M: Measure, R: Reducer<M>, B: Beneath<M>>(
     rows: &mut [Entry<M>],
     out: &mut [Entry<M>],
 ) -> Result<[usize; 8], Refusal>
-    requires given { Given (net_of net.now (faces beneath.now)) (cards beneath.now) }
+    requires given { Given (net_of net.now (B.faces beneath.now)) (B.cards beneath.now) }
     requires rows { 3072 ≤ length rows.old }
     requires out { 128 ≤ length out.old }
-    ensures answer { MatchResult result (λ lens. Carded M.Measure.ops R.Reducer.gives (net_of net.now (faces beneath.now)) (cards beneath.now) (list_at out.new lens)) (Unworked M.Measure.ops R.Reducer.gives (net_of net.now (faces beneath.now)) (cards beneath.now)) }
+    ensures answer { MatchResult result (λ lens. Carded M.Measure.ops R.Reducer.gives (net_of net.now (B.faces beneath.now)) (B.cards beneath.now) (list_at out.new lens)) (Unworked M.Measure.ops R.Reducer.gives (net_of net.now (B.faces beneath.now)) (B.cards beneath.now)) }
     ensures rows { MatchResult result (λ lens. CardRows (entry_ops M.Measure.ops).zero net.now.inputs out.old out.new lens) (λ _. out.new ≡ out.old) }
 {
     let (lists, rest) = rows.split_at_mut(2048);
@@ -234,15 +234,15 @@ pub fn card<M: Measure, R: Reducer<M>, B: Beneath<M>>(
     rows: &mut [Entry<M>],
     out: &mut [Entry<M>],
 ) -> Result<[usize; 8], Refusal>
-    requires named { Named (network_of (says sheet.now) (faces beneath.now)) }
-    requires fit { Fit (network_of (says sheet.now) (faces beneath.now)) (cards beneath.now) }
+    requires named { Named (network_of (says sheet.now) (B.faces beneath.now)) }
+    requires fit { Fit (network_of (says sheet.now) (B.faces beneath.now)) (B.cards beneath.now) }
     requires rows { 3072 ≤ length rows.old }
     requires out { 128 ≤ length out.old }
-    ensures answer { MatchResult result (λ lens. Carded M.Measure.ops R.Reducer.gives (network_of (says sheet.now) (faces beneath.now)) (cards beneath.now) (list_at out.new lens)) (Unworked M.Measure.ops R.Reducer.gives (network_of (says sheet.now) (faces beneath.now)) (cards beneath.now)) }
+    ensures answer { MatchResult result (λ lens. Carded M.Measure.ops R.Reducer.gives (network_of (says sheet.now) (B.faces beneath.now)) (B.cards beneath.now) (list_at out.new lens)) (Unworked M.Measure.ops R.Reducer.gives (network_of (says sheet.now) (B.faces beneath.now)) (B.cards beneath.now)) }
     ensures rows { MatchResult result (λ lens. CardRows (entry_ops M.Measure.ops).zero (says sheet.now).face.inputs out.old out.new lens) (λ _. out.new ≡ out.old) }
-    ensures covers { IfOk result (λ lens. Covers M.Measure.ops (network_of (says sheet.now) (faces beneath.now)) (cards beneath.now) (B.Beneath.runs beneath.now) (list_at out.new lens)) }
-    ensures attained { IfOk result (λ lens. Selects R.Reducer.gives → Attains M.Measure.ops (network_of (says sheet.now) (faces beneath.now)) (cards beneath.now) (B.Beneath.runs beneath.now) (list_at out.new lens)) }
-    ensures evaluated { Evaluated M.Measure.ops R.Reducer.gives (network_of (says sheet.now) (faces beneath.now)) (cards beneath.now) (list_at out.new) result }
+    ensures covers { IfOk result (λ lens. Covers M.Measure.ops (network_of (says sheet.now) (B.faces beneath.now)) (B.cards beneath.now) (B.Beneath.runs beneath.now) (list_at out.new lens)) }
+    ensures attained { IfOk result (λ lens. Selects R.Reducer.gives → Attains M.Measure.ops (network_of (says sheet.now) (B.faces beneath.now)) (B.cards beneath.now) (B.Beneath.runs beneath.now) (list_at out.new lens)) }
+    ensures evaluated { Evaluated M.Measure.ops R.Reducer.gives (network_of (says sheet.now) (B.faces beneath.now)) (B.cards beneath.now) (list_at out.new) result }
 {
     let none = End::Outside { port: 0 };
     let mut wires = [Connection {

@@ -75,7 +75,7 @@ fn open_way<M: Measure>(
 
 // Whether k is the number of a place.
 fn is_place<M: Measure, B: Beneath<M>>(beneath: &B, k: usize) -> bool
-    ensures { Decides result (k % 8 < (faces beneath.now (k / 8)).inputs) }
+    ensures { Decides result (k % 8 < (B.faces beneath.now (k / 8)).inputs) }
 {
     k % 8 < beneath.face(k / 8).inputs
 }
@@ -87,8 +87,8 @@ fn barred_place<M: Measure, B: Beneath<M>>(
     k: usize,
     marks: &[bool],
 ) -> Option<usize>
-    requires { Given (net_of net.now (faces beneath.now)) (cards beneath.now) }
-    ensures { MatchOption result (Ready (Leads (net_of net.now (faces beneath.now)) (cards beneath.now)) (Marked marks.now) k) (Barred (Below (8 * net.now.instances) (Node (net_of net.now (faces beneath.now)))) (Leads (net_of net.now (faces beneath.now)) (cards beneath.now)) (Marked marks.now) k) }
+    requires { Given (net_of net.now (B.faces beneath.now)) (B.cards beneath.now) }
+    ensures { MatchOption result (Ready (Leads (net_of net.now (B.faces beneath.now)) (B.cards beneath.now)) (Marked marks.now) k) (Barred (Below (8 * net.now.instances) (Node (net_of net.now (B.faces beneath.now)))) (Leads (net_of net.now (B.faces beneath.now)) (B.cards beneath.now)) (Marked marks.now) k) }
 {
     let entries = beneath.card(k / 8, k % 8);
     for c in net.connections {
@@ -102,7 +102,7 @@ fn barred_place<M: Measure, B: Beneath<M>>(
 
 // Whether some entry for place k counts 255 at a connected output.
 fn is_full<M: Measure, B: Beneath<M>>(net: &Net, beneath: &B, k: usize) -> bool
-    ensures { Decides result (Full (net_of net.now (faces beneath.now)) (cards beneath.now) (k / 8) (k % 8)) }
+    ensures { Decides result (Full (net_of net.now (B.faces beneath.now)) (B.cards beneath.now) (k / 8) (k % 8)) }
 {
     let entries = beneath.card(k / 8, k % 8);
     for c in net.connections {
@@ -116,7 +116,7 @@ fn is_full<M: Measure, B: Beneath<M>>(net: &Net, beneath: &B, k: usize) -> bool
 // The lowest place with such an entry.
 pub(crate) fn full_place<M: Measure, B: Beneath<M>>(net: &Net, beneath: &B) -> Option<usize>
     requires { net.now.instances ≤ 16 }
-    ensures { MatchOption result (NoneFull (net_of net.now (faces beneath.now)) (cards beneath.now)) (FullAt (net_of net.now (faces beneath.now)) (cards beneath.now)) }
+    ensures { MatchOption result (NoneFull (net_of net.now (B.faces beneath.now)) (B.cards beneath.now)) (FullAt (net_of net.now (B.faces beneath.now)) (B.cards beneath.now)) }
 {
     for k in 0..8 * net.instances {
         if is_place(beneath, k) && is_full(net, beneath, k) {

@@ -1,4 +1,6 @@
 // Networks: the card of a composite block from the cards beneath it.
+#![tactic(auto)]
+
 pub mod beneath;
 pub mod card;
 mod graph;

@@ -22,7 +22,7 @@ fn reduce_short<M: Measure, R: Reducer<M>>(rows: &[Entry<M>], out: &mut [Entry<M
     requires some { 1 ≤ length rows.now }
     requires few { length rows.now ≤ 256 }
     requires room { 256 ≤ length out.old }
-    ensures { Came (Reduces gives rows.now) out.new result }
+    ensures { Came (Reduces R.gives rows.now) out.new result }
 {
     let r = R::reduce(rows, out);
     if r > 16 {
@@ -41,7 +41,7 @@ fn join_reduce<M: Measure, R: Reducer<M>>(
     requires list { (1 ≤ len) × (len ≤ 16) }
     requires other { (1 ≤ length src.now) × (length src.now ≤ 16) }
     requires room { (256 ≤ length acc.old) × (16 * length src.now ≤ length joined.old) }
-    ensures { Came (Joins M.Measure.ops gives (take len acc.old) src.now) acc.new result }
+    ensures { Came (Joins M.Measure.ops R.gives (take len acc.old) src.now) acc.new result }
 {
     let (list, _) = acc.split_at(len);
     let k = join(list, src, joined);
@@ -60,7 +60,7 @@ fn times<M: Measure, R: Reducer<M>>(
     requires list { (1 ≤ len) × (len ≤ 16) }
     requires other { (1 ≤ length src.now) × (length src.now ≤ 16) }
     requires room { (256 ≤ length acc.old) × (length joined.old ≡ 256) }
-    ensures { Came (Times M.Measure.ops gives n src.now (take len acc.old)) acc.new result }
+    ensures { Came (Times M.Measure.ops R.gives n src.now (take len acc.old)) acc.new result }
 {
     let mut at = len;
     for i in 0..n {
@@ -93,7 +93,7 @@ fn follow_outside<M: Measure, R: Reducer<M>>(
     requires output { p < 8 }
     requires list { (1 ≤ len) × (len ≤ 16) }
     requires room { (256 ≤ length src.old) × (length joined.old ≡ 256) }
-    ensures { Came (Joins M.Measure.ops gives (take len src.old) (target_list M.Measure.ops (λ i f. []) (Outside p))) src.new result }
+    ensures { Came (Joins M.Measure.ops R.gives (take len src.old) (target_list M.Measure.ops (λ i f. []) (Outside p))) src.new result }
 {
     let (front, one) = joined.split_at_mut(255);
     one[0] = arrival::<M>(p);
@@ -113,7 +113,7 @@ fn follow_inside<M: Measure, R: Reducer<M>>(
     requires place { (k < length lens.now) × (1 ≤ slice_index lens.now k) × (slice_index lens.now k ≤ 16) × (16 * k + 16 ≤ length lists.now) }
     requires list { (1 ≤ len) × (len ≤ 16) }
     requires room { (256 ≤ length src.old) × (length joined.old ≡ 256) }
-    ensures { Came (Joins M.Measure.ops gives (take len src.old) (list_at lists.now lens.now k)) src.new result }
+    ensures { Came (Joins M.Measure.ops R.gives (take len src.old) (list_at lists.now lens.now k)) src.new result }
 {
     let start = 16 * k;
     let end = start + lens[k];
@@ -133,7 +133,7 @@ fn follow<M: Measure, R: Reducer<M>>(
     requires filled { Filled lens.now target }
     requires list { (1 ≤ len) × (len ≤ 16) }
     requires room { (256 ≤ length src.old) × (length joined.old ≡ 256) }
-    ensures { Came (Joins M.Measure.ops gives (take len src.old) (target_list M.Measure.ops (table_at lists.now lens.now) target)) src.new result }
+    ensures { Came (Joins M.Measure.ops R.gives (take len src.old) (target_list M.Measure.ops (table_at lists.now lens.now) target)) src.new result }
 {
     match target {
         End::Outside { port: p } => follow_outside::<M, R>(p, src, len, joined),
@@ -156,7 +156,7 @@ pub(crate) fn source_list<M: Measure, R: Reducer<M>>(
     requires lent { Lent lists.now lens.now }
     requires filled { All (Filled lens.now) (targets cs.now s) }
     requires room { (256 ≤ length src.old) × (length joined.old ≡ 256) }
-    ensures { Came (SourceList M.Measure.ops gives (table_at lists.now lens.now) (targets cs.now s)) src.new result }
+    ensures { Came (SourceList M.Measure.ops R.gives (table_at lists.now lens.now) (targets cs.now s)) src.new result }
 {
     src[0] = Entry::zero();
     let mut len = 1;
@@ -187,7 +187,7 @@ fn send<M: Measure, R: Reducer<M>>(
     requires filled { 1 ≤ n → All (Filled lens.now) (targets cs.now s) }
     requires list { (1 ≤ len) × (len ≤ 16) }
     requires room { (256 ≤ length acc.old) × (256 ≤ length src.old) × (length joined.old ≡ 256) }
-    ensures { Came (Sends M.Measure.ops gives (table_at lists.now lens.now) (targets cs.now s) n (take len acc.old)) acc.new result }
+    ensures { Came (Sends M.Measure.ops R.gives (table_at lists.now lens.now) (targets cs.now s) n (take len acc.old)) acc.new result }
 {
     if n == 0 {
         return Some(len);
@@ -218,7 +218,7 @@ fn entry_list<M: Measure, R: Reducer<M>>(
     requires lent { Lent lists.now lens.now }
     requires sent { Provided lens.now cs.now i e }
     requires room { (256 ≤ length acc.old) × (256 ≤ length src.old) × (length joined.old ≡ 256) }
-    ensures { Came (EntryList M.Measure.ops gives (table_at lists.now lens.now) cs.now i e) acc.new result }
+    ensures { Came (EntryList M.Measure.ops R.gives (table_at lists.now lens.now) cs.now i e) acc.new result }
 {
     acc[0] = Entry::of(e.amount);
     let mut len = 1;
@@ -271,7 +271,7 @@ pub(crate) fn place_list<M: Measure, R: Reducer<M>>(
     requires card { (1 ≤ length entries.now) × (length entries.now ≤ 16) }
     requires sent { All (Provided lens.now cs.now i) entries.now }
     requires room { (256 ≤ length acc.old) × (256 ≤ length src.old) × (length joined.old ≡ 256) × (256 ≤ length gathered.old) }
-    ensures { Came (PlaceList M.Measure.ops gives (table_at lists.now lens.now) cs.now i entries.now) acc.new result }
+    ensures { Came (PlaceList M.Measure.ops R.gives (table_at lists.now lens.now) cs.now i entries.now) acc.new result }
 {
     let mut n = 0;
     for e in entries {

@@ -16,7 +16,7 @@ use sheets::words::{Connection, End, Item};
 
 // Whether the end names an event from outside or an output of an instance.
 fn is_source<M: Measure, B: Beneath<M>>(sheet: &Checked<'_>, beneath: &B, s: End) -> bool
-    ensures { Decides result (Source (network_of (says sheet.now) (faces beneath.now)) s) }
+    ensures { Decides result (Source (network_of (says sheet.now) (B.faces beneath.now)) s) }
 {
     match s {
         End::Outside { port } => port < sheet.interface().inputs,
@@ -27,7 +27,7 @@ fn is_source<M: Measure, B: Beneath<M>>(sheet: &Checked<'_>, beneath: &B, s: End
 
 // Whether the end names an output to outside or a place.
 fn is_target<M: Measure, B: Beneath<M>>(sheet: &Checked<'_>, beneath: &B, t: End) -> bool
-    ensures { Decides result (Target (network_of (says sheet.now) (faces beneath.now)) t) }
+    ensures { Decides result (Target (network_of (says sheet.now) (B.faces beneath.now)) t) }
 {
     match t {
         End::Outside { port } => port < sheet.interface().outputs,
@@ -38,14 +38,14 @@ fn is_target<M: Measure, B: Beneath<M>>(sheet: &Checked<'_>, beneath: &B, t: End
 
 // Whether both ends of the connection name something.
 fn is_named<M: Measure, B: Beneath<M>>(sheet: &Checked<'_>, beneath: &B, c: Connection) -> bool
-    ensures { Decides result (NamedConnection (network_of (says sheet.now) (faces beneath.now)) c) }
+    ensures { Decides result (NamedConnection (network_of (says sheet.now) (B.faces beneath.now)) c) }
 {
     is_source(sheet, beneath, c.source) && is_target(sheet, beneath, c.target)
 }
 
 // The first connection with an end that names nothing.
 fn unnamed<M: Measure, B: Beneath<M>>(sheet: &Checked<'_>, beneath: &B) -> Option<usize>
-    ensures { MatchOption result (Named (network_of (says sheet.now) (faces beneath.now))) (FirstUnnamed (network_of (says sheet.now) (faces beneath.now))) }
+    ensures { MatchOption result (Named (network_of (says sheet.now) (B.faces beneath.now))) (FirstUnnamed (network_of (says sheet.now) (B.faces beneath.now))) }
 {
     for k in 0..sheet.count(Item::Connection) {
         if !is_named(sheet, beneath, connection_at(sheet, k)) {
@@ -109,7 +109,7 @@ fn repeated_in(sheet: &Checked<'_>) -> Option<usize>
 
 // Check 5: a connection's instance or port names nothing. Then check 6: a connection repeated. Each over the whole sheet, at the first place.
 pub fn names<M: Measure, B: Beneath<M>>(sheet: &Checked<'_>, beneath: &B) -> Result<(), Refusal>
-    ensures { MatchResult result (λ _. Named (network_of (says sheet.now) (faces beneath.now)) × Distinct (says sheet.now).connections) (Misnamed (network_of (says sheet.now) (faces beneath.now)) (offsets_of OfConnection sheet.now.bytes.now)) }
+    ensures { MatchResult result (λ _. Named (network_of (says sheet.now) (B.faces beneath.now)) × Distinct (says sheet.now).connections) (Misnamed (network_of (says sheet.now) (B.faces beneath.now)) (offsets_of OfConnection sheet.now.bytes.now)) }
 {
     if let Some(k) = unnamed(sheet, beneath) {
         return Err(Refusal::Unnamed {

@@ -22,10 +22,10 @@ fn work_space<M: Measure, R: Reducer<M>, B: Beneath<M>>(
     rows: &mut [Entry<M>],
     gathered: &mut [Entry<M>],
 ) -> Result<[usize; 8], Refusal>
-    requires given { Given (net_of net.now (faces beneath.now)) (cards beneath.now) }
+    requires given { Given (net_of net.now (B.faces beneath.now)) (B.cards beneath.now) }
     requires rows { 2816 ≤ length rows.old }
     requires gathered { 256 ≤ length gathered.old }
-    ensures card { MatchResult result (λ ends. Carded M.Measure.ops R.Reducer.gives (net_of net.now (faces beneath.now)) (cards beneath.now) (list_at gathered.new ends)) (Unworked M.Measure.ops R.Reducer.gives (net_of net.now (faces beneath.now)) (cards beneath.now)) }
+    ensures card { MatchResult result (λ ends. Carded M.Measure.ops R.Reducer.gives (net_of net.now (B.faces beneath.now)) (B.cards beneath.now) (list_at gathered.new ends)) (Unworked M.Measure.ops R.Reducer.gives (net_of net.now (B.faces beneath.now)) (B.cards beneath.now)) }
     ensures finished { IfOk result (λ ends. Finished (entry_ops M.Measure.ops).zero net.now.inputs gathered.new ends × (length ends ≡ 8)) }
 {
     let (lists, rest) = rows.split_at_mut(2048);
@@ -43,11 +43,11 @@ pub fn card_in<M: Measure, R: Reducer<M>, B: Beneath<M>>(
     rows: &mut [Entry<M>],
     gathered: &mut [Entry<M>],
 ) -> Result<[usize; 8], Refusal>
-    requires named { Named (network_of (says sheet.now) (faces beneath.now)) }
-    requires fit { Fit (network_of (says sheet.now) (faces beneath.now)) (cards beneath.now) }
+    requires named { Named (network_of (says sheet.now) (B.faces beneath.now)) }
+    requires fit { Fit (network_of (says sheet.now) (B.faces beneath.now)) (B.cards beneath.now) }
     requires rows { 2816 ≤ length rows.old }
     requires gathered { 256 ≤ length gathered.old }
-    ensures answer { MatchResult result (λ lens. Carded M.Measure.ops R.Reducer.gives (network_of (says sheet.now) (faces beneath.now)) (cards beneath.now) (list_at gathered.new lens)) (Unworked M.Measure.ops R.Reducer.gives (network_of (says sheet.now) (faces beneath.now)) (cards beneath.now)) }
+    ensures answer { MatchResult result (λ lens. Carded M.Measure.ops R.Reducer.gives (network_of (says sheet.now) (B.faces beneath.now)) (B.cards beneath.now) (list_at gathered.new lens)) (Unworked M.Measure.ops R.Reducer.gives (network_of (says sheet.now) (B.faces beneath.now)) (B.cards beneath.now)) }
     ensures rows { IfOk result (λ lens. Finished (entry_ops M.Measure.ops).zero (says sheet.now).face.inputs gathered.new lens × (length lens ≡ 8)) }
 {
     let none = End::Outside { port: 0 };

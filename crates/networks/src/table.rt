@@ -85,12 +85,12 @@ pub(crate) fn work_places<M: Measure, R: Reducer<M>, B: Beneath<M>>(
     joined: &mut [Entry<M>],
     gathered: &mut [Entry<M>],
 ) -> Result<(), usize>
-    requires given { Given (net_of net.now (faces beneath.now)) (cards beneath.now) }
-    requires order { Order (Node (net_of net.now (faces beneath.now))) (Leads (net_of net.now (faces beneath.now)) (cards beneath.now)) order.now }
+    requires given { Given (net_of net.now (B.faces beneath.now)) (B.cards beneath.now) }
+    requires order { Order (Node (net_of net.now (B.faces beneath.now))) (Leads (net_of net.now (B.faces beneath.now)) (B.cards beneath.now)) order.now }
     requires lent { Lent lists.old lens.old }
     requires long { length lens.old ≡ 128 }
     requires room { (256 ≤ length acc.old) × (256 ≤ length src.old) × (length joined.old ≡ 256) × (256 ≤ length gathered.old) }
-    ensures { MatchResult result (λ _. Lent lists.new lens.new × ((m : ℕ) → Has order.now m → Formed M.Measure.ops R.Reducer.gives (net_of net.now (faces beneath.now)) (cards beneath.now) (table_at lists.new lens.new) (m / 8) (m % 8))) (λ n. TooLongAt M.Measure.ops R.Reducer.gives (net_of net.now (faces beneath.now)) (cards beneath.now) n) }
+    ensures { MatchResult result (λ _. Lent lists.new lens.new × ((m : ℕ) → Has order.now m → Formed M.Measure.ops R.Reducer.gives (net_of net.now (B.faces beneath.now)) (B.cards beneath.now) (table_at lists.new lens.new) (m / 8) (m % 8))) (λ n. TooLongAt M.Measure.ops R.Reducer.gives (net_of net.now (B.faces beneath.now)) (B.cards beneath.now) n) }
 {
     for k in order {
         let entries = beneath.card(*k / 8, *k % 8);

@@ -2,7 +2,7 @@
 use Rattle.std.proofs.Common.{◌≡◌, ℕ, zero, suc, ◌<◌, ◌≤◌, List, length, get_or, take, sym, refl, subst, arith}
 use Rattle.std.specs.List.{ContainsAt as Has}
 use Rattle.std.proofs.lemmas.List.{take-take}
-use Rattle.order.specs.Order.{Next, Stuck, Order, Complete, Unworkable}
+use Rattle.order.specs.Order.{Stuck, Order, Complete, Unworkable}
 use Rattle.order.specs.Ways.{Way, Endless, NoCircle}
 use Rattle.order.proofs.Induction.{has_take, has_of_take}
 

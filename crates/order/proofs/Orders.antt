@@ -1,13 +1,12 @@
 -- The working order, one node more at a time. Assumes nothing.
-use Rattle.std.proofs.Common.{◌≡◌, ℕ, zero, suc, ◌+◌, ◌-◌, ◌*◌, ◌<◌, ◌≤◌, Bool, true, false, ◌⊎◌, List, [], ◌∷◌, ◌++◌, length, get_or, take, drop, set, sym, refl, ap, ◌∙◌, subst, inl, inr, ⊎_elim, arith}
-use native.Mathlib.Numerals.{unary_clauses}
+use Rattle.std.proofs.Common.{◌≡◌, ℕ, zero, suc, ◌+◌, ◌<◌, Bool, true, false, List, [], ◌∷◌, ◌++◌, length, get_or, take, set, sym, refl, ap, ◌∙◌, subst, ⊎_elim, arith}
 use borrow.Author.Tests.{clash}
 use Rattle.std.specs.List.{ContainsAt as Has}
 use Rattle.std.proofs.ByRecursion.{has_append_left, has_push, has_push_cases}
 use Rattle.std.proofs.lemmas.List.{take-take, get_or-take, length-take, take-append-le, get_or_append_left, take_at, get_or_push, length_push, get_or-set_same, get_or-set_other}
 use Rattle.std.proofs.lemmas.Bool.{cases_eq}
 use Rattle.std.proofs.str.Laws.{order}
-use Rattle.order.specs.Order.{Next, Stuck, Order, Complete, Unworkable, Planned, Barred, Ready, Marked, MarksOf, falses}
+use Rattle.order.specs.Order.{Next, Stuck, Order, Complete, Unworkable, Marked, MarksOf, falses}
 
 module _ (Node : ℕ → Type 0) (leads : ℕ → ℕ → Type 0) where
   -- worked by another account of the same nodes

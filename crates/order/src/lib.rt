@@ -1,4 +1,6 @@
 // The order in which the nodes of a graph are worked, and its circles.
+#![tactic(auto)]
+
 ghost use Rattle.std.specs.Prelude.{◌≡◌, ℕ, ◌<◌, ◌≤◌, true, false, length, take, Decides, MatchOption, MatchResult, slice_index, slice_index_or};
 ghost use Rattle.std.specs.List.{ContainsAt as Has};
 ghost use Rattle.order.specs.Order.{Next, Stuck, Order, Planned, Unworkable, Marked, Ready, Barred, MarksOf, Below};
@@ -30,16 +32,16 @@ pub trait Graph {
 
 // Whether k is an unmarked node.
 fn is_left<G: Graph>(graph: &G, k: usize, marks: &[bool]) -> bool
-    requires { (can graph.now) × ((k < length marks.now) × (length marks.now ≡ nodes graph.now)) }
-    ensures { Decides result (node graph.now k × (Marked marks.now k → ⊥)) }
+    requires { (G.can graph.now) × ((k < length marks.now) × (length marks.now ≡ G.nodes graph.now)) }
+    ensures { Decides result (G.node graph.now k × (Marked marks.now k → ⊥)) }
 {
     graph.is_node(k) && !marks[k]
 }
 
 // The next node to work.
 fn next_node<G: Graph>(graph: &G, marks: &[bool]) -> Option<usize>
-    requires { (can graph.now) × (length marks.now ≡ nodes graph.now) }
-    ensures { MatchOption result (Stuck (Below (nodes graph.now) (node graph.now)) (leads graph.now) (Marked marks.now)) (Next (Below (nodes graph.now) (node graph.now)) (leads graph.now) (Marked marks.now)) }
+    requires { (G.can graph.now) × (length marks.now ≡ G.nodes graph.now) }
+    ensures { MatchOption result (Stuck (Below (G.nodes graph.now) (G.node graph.now)) (G.leads graph.now) (Marked marks.now)) (Next (Below (G.nodes graph.now) (G.node graph.now)) (G.leads graph.now) (Marked marks.now)) }
 {
     for s in 0..marks.len() {
         if is_left(graph, s, marks) {
@@ -63,11 +65,11 @@ fn clear(marks: &mut [bool])
 
 // Marks the nodes that can be worked, writes them in working order, and answers how many there are.
 fn working_order<G: Graph>(graph: &G, marks: &mut [bool], order: &mut [usize]) -> usize
-    requires { (can graph.now) × ((length marks.old ≡ nodes graph.now) × ((((t : ℕ) → slice_index_or marks.old t false ≡ false)) × (length marks.old ≤ length order.old))) }
+    requires { (G.can graph.now) × ((length marks.old ≡ G.nodes graph.now) × ((((t : ℕ) → slice_index_or marks.old t false ≡ false)) × (length marks.old ≤ length order.old))) }
     ensures within { result ≤ length order.new }
-    ensures order { Order (Below (nodes graph.now) (node graph.now)) (leads graph.now) (take result order.new) }
+    ensures order { Order (Below (G.nodes graph.now) (G.node graph.now)) (G.leads graph.now) (take result order.new) }
     ensures marks { MarksOf marks.new (take result order.new) }
-    ensures none { Stuck (Below (nodes graph.now) (node graph.now)) (leads graph.now) (Has (take result order.new)) }
+    ensures none { Stuck (Below (G.nodes graph.now) (G.node graph.now)) (G.leads graph.now) (Has (take result order.new)) }
 {
     let mut k = 0;
     while let Some(s) = next_node(graph, marks) {
@@ -80,8 +82,8 @@ fn working_order<G: Graph>(graph: &G, marks: &mut [bool], order: &mut [usize]) -
 
 // The lowest node that is not marked.
 fn lowest_unmarked<G: Graph>(graph: &G, marks: &[bool]) -> Option<usize>
-    requires { (can graph.now) × (length marks.now ≡ nodes graph.now) }
-    ensures { MatchOption result ((t : ℕ) → Below (nodes graph.now) (node graph.now) t → Marked marks.now t) (λ s. Below (nodes graph.now) (node graph.now) s × ((Marked marks.now s → ⊥) × ((t : ℕ) → t < s → Below (nodes graph.now) (node graph.now) t → Marked marks.now t))) }
+    requires { (G.can graph.now) × (length marks.now ≡ G.nodes graph.now) }
+    ensures { MatchOption result ((t : ℕ) → Below (G.nodes graph.now) (G.node graph.now) t → Marked marks.now t) (λ s. Below (G.nodes graph.now) (G.node graph.now) s × ((Marked marks.now s → ⊥) × ((t : ℕ) → t < s → Below (G.nodes graph.now) (G.node graph.now) t → Marked marks.now t))) }
 {
     for t in 0..marks.len() {
         if is_left(graph, t, marks) {
@@ -95,11 +97,11 @@ fn lowest_unmarked<G: Graph>(graph: &G, marks: &[bool]) -> Option<usize>
 // It asks for as many marks as there are numbers and for as many rows; what the marks and further rows hold afterwards is free.
 // An order of all nodes says that there is no circle; from a node that cannot be worked there are ways of every length.
 pub fn plan<G: Graph>(graph: &G, marks: &mut [bool], order: &mut [usize]) -> Result<usize, usize>
-    requires can { can graph.now }
-    requires marks { length marks.old ≡ nodes graph.now }
+    requires can { G.can graph.now }
+    requires marks { length marks.old ≡ G.nodes graph.now }
     requires rows { length marks.old ≤ length order.old }
-    ensures order { MatchResult result (Planned (Below (nodes graph.now) (node graph.now)) (leads graph.now) order.new) (Unworkable (Below (nodes graph.now) (node graph.now)) (leads graph.now)) }
-    ensures circles { MatchResult result (λ _. NoCircle (Below (nodes graph.now) (node graph.now)) (leads graph.now)) (Endless (leads graph.now)) }
+    ensures order { MatchResult result (Planned (Below (G.nodes graph.now) (G.node graph.now)) (G.leads graph.now) order.new) (Unworkable (Below (G.nodes graph.now) (G.node graph.now)) (G.leads graph.now)) }
+    ensures circles { MatchResult result (λ _. NoCircle (Below (G.nodes graph.now) (G.node graph.now)) (G.leads graph.now)) (Endless (G.leads graph.now)) }
 {
     clear(marks);
     let count = working_order(graph, marks, order);

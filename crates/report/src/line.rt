@@ -2,7 +2,7 @@
 ghost use Rattle.std.specs.Prelude.{◌≡◌, IfOk, string_bytes};
 ghost use Rattle.report.specs.Lines.{spelt};
 ghost use Rattle.report.specs.declared.line.Line.TheVariants.{Refused};
-ghost use Rattle.sheets.specs.Refusals.{number as number_of, level as level-of, place as place_of};
+ghost use Rattle.sheets.specs.Refusals.{number as number_of, level as level_of, place as place_of};
 
 use sheets::refusal::Refusal;
 use std::alloc::{AllocError, Global};
@@ -27,7 +27,7 @@ fn number(refusal: Refusal) -> usize
 }
 
 fn level(refusal: Refusal) -> usize
-    ensures { result ≡ level-of refusal }
+    ensures { result ≡ level_of refusal }
 {
     match refusal {
         Refusal::Cut { .. } => 1,

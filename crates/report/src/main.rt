@@ -1,4 +1,6 @@
 // Reads a file of sheets from standard input, and prints a line for each.
+#![tactic(auto)]
+
 mod answers;
 mod line;
 

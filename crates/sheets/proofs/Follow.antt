@@ -1,14 +1,11 @@
 -- The grammar's tests decide its relation. Assumes nothing.
-use Rattle.std.proofs.Common.{◌≡◌, ℕ, zero, suc, ◌+◌, ◌*◌, ◌/◌, ◌%◌, ◌<◌, ◌≤◌, max, Bool, true, false, cond, ◌&&◌, eqb, ltb, leb, ◌⊎◌, List, [], ◌∷◌, length, get_or, Decides, sym, refl, ap, ◌∙◌, subst, inl, inr, ⊎_elim, mul-le-mul_right, div-add-mod', arith}
-use native.Mathlib.Nat.{mul-mod_left, div-le_of_le-mul}
-use Rattle.std.specs.List.{AllByRecursion}
-use Rattle.std.proofs.lemmas.Bool.{cases_Bool, cases_eq, cases_lt, cond-true, cond-false, and_parts, and_from, eqb-true, eq-eqb, ne_eqb, ltb-true, lt-ltb, le-ltb, leb-true, le-leb, false≢true}
-use Rattle.std.proofs.lemmas.Bool.Decides.{nat_tests}
+use Rattle.std.proofs.Common.{◌≡◌, ℕ, zero, suc, ◌<◌, ◌≤◌, true, cond, ◌&&◌, ltb, leb, List, [], ◌∷◌, length, get_or, Decides, sym, refl, ◌∙◌, subst, ⊎_elim, arith}
+use Rattle.std.proofs.lemmas.Bool.{cases_eq, cases_lt, cond-true, cond-false, and_parts, and_from, eq-eqb, ne_eqb, ltb-true, lt-ltb, le-ltb, leb-true, le-leb, false≢true}
 use Rattle.sheets.specs.Frames.{Raw}
-use Rattle.sheets.specs.Grammar.{byte, count, entries, highest, some, lower, first_is, room, follows, each_event, complete, most_of, belongs_to, fits_of, interface_ok, heads_of}
+use Rattle.sheets.specs.Grammar.{byte, count, entries, highest, some, lower, first_is, room, follows, each_event, complete, most_of, belongs_to, fits_of}
 use Rattle.sheets.specs.Lawful.{Heads, Belongs, Fits, Needed, Most, Follows, Whole}
 use Rattle.sheets.specs.Lawful as L
-use Rattle.sheets.proofs.Tables.{heads_decides, Kinds, kinds, belongs_out, belongs_as, belongs_in, tags, fits_in, fits_out, ascending_in, ascending_out, needed_is}
+use Rattle.sheets.proofs.Tables.{Kinds, kinds, belongs_out, belongs_as, belongs_in, tags, fits_in, fits_out, ascending_in, ascending_out, needed_is}
 
 -- the needed lower tags have come
 abbrev Lower : ℕ → ℕ → List Raw → Type 0

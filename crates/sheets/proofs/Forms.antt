@@ -1,11 +1,11 @@
 -- Every checked sheet has the form. Assumes nothing.
-use Rattle.std.proofs.Common.{◌≡◌, ℕ, ◌<◌, ◌≤◌, Bool, true, false, cond, ◌&&◌, eqb, List, [], ◌∷◌, map, length, is_ok, unwrap_or, sym, refl, ap, ◌∙◌, subst, ⊎_elim, arith}
+use Rattle.std.proofs.Common.{◌≡◌, ℕ, ◌≤◌, true, List, ◌∷◌, map, length, is_ok, unwrap_or, sym, refl, ap, ◌∙◌, subst, ⊎_elim, arith}
 use Rattle.std.proofs.lemmas.List.{length-map}
-use Rattle.std.proofs.lemmas.Bool.{cases_eq, cond-true, cond-false, and_parts, eq-eqb, ne_eqb, leb-true, eqb-true}
-use Rattle.sheets.specs.Frames.{Raw, fields}
+use Rattle.std.proofs.lemmas.Bool.{cases_eq, cond-false, ne_eqb}
+use Rattle.sheets.specs.Frames.{Raw}
 use Rattle.sheets.specs.Fields.{kind_of}
 use Rattle.sheets.specs.Form.{Form, served}
-use Rattle.sheets.specs.Grammar.{byte, count, entries, most_of, some, each_event, complete, interface_ok, heads_of, fault}
+use Rattle.sheets.specs.Grammar.{byte, count, entries, most_of, fault}
 use Rattle.sheets.specs.Lawful.{Heads, Belongs, Needed, Whole, Accepts, Lawful}
 use Rattle.sheets.specs.Lawful as L
 use Rattle.sheets.specs.Refusals.{check_of}

@@ -1,10 +1,10 @@
 -- The field at the front, by places. Assumes nothing.
-use Rattle.std.proofs.Common.{◌≡◌, ℕ, suc, ◌+◌, ◌-◌, ◌*◌, ◌<◌, ◌≤◌, cond, leb, List, [], ◌∷◌, length, get_or, take, drop, Some, None, Option, sym, refl, ap, ◌∙◌, subst, arith}
-use Rattle.std.proofs.lemmas.List.{take_rest, length-take-le}
+use Rattle.std.proofs.Common.{◌≡◌, ℕ, suc, ◌+◌, ◌*◌, ◌<◌, ◌≤◌, List, [], ◌∷◌, length, get_or, take, drop, Some, refl, arith}
+use Rattle.std.proofs.lemmas.List.{length-take-le}
 use Rattle.std.proofs.lemmas.Bool.{cond-true, le-leb}
 use Rattle.std.specs.Option.{option_map}
 use Rattle.sheets.specs.Fields.{entry, entry_of}
-use Rattle.sheets.specs.Frames.{Raw, size, field_at}
+use Rattle.sheets.specs.Frames.{size, field_at}
 
 three : (n : ℕ) → 3 + n ≡ suc (suc (suc n))
 three n = omega arith

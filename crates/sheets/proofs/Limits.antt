@@ -1,19 +1,15 @@
 -- A checked sheet has the form: each limit from the rule that let its fields follow one another. Assumes nothing.
-use Rattle.std.proofs.Common.{◌≡◌, ℕ, zero, suc, ◌+◌, ◌*◌, ◌/◌, ◌<◌, ◌≤◌, Bool, true, false, cond, ◌&&◌, eqb, ltb, leb, ◌⊎◌, List, [], ◌∷◌, ◌++◌, map, length, get_or, take, drop, is_ok, Some, None, unwrap_or, sym, refl, ap, ◌∙◌, subst, inl, inr, ⊎_elim, arith}
-use native.Mathlib.Nat.{zero-div, div-le_of_le-mul}
+use Rattle.std.proofs.Common.{◌≡◌, ℕ, ◌+◌, ◌*◌, ◌/◌, ◌<◌, ◌≤◌, true, false, cond, ◌&&◌, eqb, ltb, leb, List, [], ◌∷◌, map, length, get_or, take, drop, Some, sym, refl, ap, ◌∙◌, subst, ⊎_elim, arith}
+use native.Mathlib.Nat.{div-le_of_le-mul}
 use Rattle.std.specs.List.{slice_get}
 use Rattle.std.proofs.lemmas.List.{length-map, get_or-map, get_or_past, length-drop, length-take-le}
 use Rattle.std.proofs.lemmas.Option.{slice_get-get_or}
-use Rattle.std.proofs.lemmas.Bool.{cases_Bool, cases_eq, cases_lt, cond-true, cond-false, and_parts, eqb-true, eqb-false, eq-eqb, ltb-true, leb-true, lt-ltb}
-use Rattle.sheets.specs.Frames.{Raw, fields}
-use Rattle.sheets.specs.Fields.{kind_of}
-use Rattle.sheets.specs.Form.{Form, served}
-use Rattle.sheets.specs.Grammar.{byte, count, entries, most_of, some, first_is, room, belongs_to, fits_of, highest, lower, follows, each_event, complete, interface_ok, heads_of}
-use Rattle.sheets.specs.Lawful.{Accepts, nothing, one_more, Lawful}
-use Rattle.sheets.specs.Refusals.{check_of}
-use Rattle.sheets.specs.Sheets.{Sheet, Served, tagged, first_of, no_field, cut, amounts_at, actions_at, served_at, interface_at, transition_at, connection_at, sheet_from, sheet_of}
-use Rattle.sheets.specs.declared.words.Kind.{Kind}
-use Rattle.sheets.specs.declared.words.Kind.TheVariants.{Basic, Service, Composite}
+use Rattle.std.proofs.lemmas.Bool.{cases_Bool, cases_lt, cond-true, cond-false, and_parts, eqb-true, ltb-true, leb-true, lt-ltb}
+use Rattle.sheets.specs.Frames.{Raw}
+use Rattle.sheets.specs.Form.{served}
+use Rattle.sheets.specs.Grammar.{byte, count, entries, most_of, first_is, room, belongs_to, fits_of, highest, lower, follows}
+use Rattle.sheets.specs.Lawful.{Accepts, nothing, one_more}
+use Rattle.sheets.specs.Sheets.{Served, tagged, first_of, no_field, amounts_at, actions_at, served_at}
 use Rattle.sheets.proofs.Follow.{follows_decides}
 use Rattle.sheets.proofs.Pieces.{length_cut, nth_cut, piece_within, length_actions}
 use Rattle.sheets.proofs.Reading.{fitting, Headed, same_some}

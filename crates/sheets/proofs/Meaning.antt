@@ -1,11 +1,11 @@
 -- What the walk over the fields means, and that it misses nothing. Assumes nothing.
-use Rattle.std.proofs.Common.{◌≡◌, ℕ, ◌+◌, Bool, true, false, cond, ◌⊎◌, List, [], ◌∷◌, ◌++◌, is_ok, Some, None, Option, sym, refl, ap, ◌∙◌, subst, inl, inr, ⊎_elim, append_assoc, append-nil, arith}
+use Rattle.std.proofs.Common.{◌≡◌, ℕ, ◌+◌, Bool, true, false, cond, List, [], ◌∷◌, ◌++◌, is_ok, Some, None, Option, sym, refl, ap, ◌∙◌, subst, ⊎_elim, append_assoc, append-nil, arith}
 use Rattle.std.proofs.lemmas.Bool.{cases_Bool, cond-true, cond-false, false≢true}
 use Rattle.std.proofs.lemmas.Bool.Decides.{not_from_Decides}
 use Rattle.sheets.specs.Frames.{Raw, size, fields, span}
 use Rattle.sheets.specs.Grammar.{heads_of, follows, complete, walk, fault}
 use Rattle.sheets.specs.Refusals.{refused_at, check_of}
-use Rattle.sheets.specs.Lawful.{Heads, Follows, Whole, Accepts, nothing, one_more, Lawful, Faulty, empty, no_head, cannot_follow, more_needed, Answered, Grammatical}
+use Rattle.sheets.specs.Lawful.{Heads, Accepts, nothing, one_more, Lawful, Faulty, empty, no_head, cannot_follow, more_needed, Answered, Grammatical}
 use Rattle.sheets.proofs.Tables.{heads_decides}
 use Rattle.sheets.proofs.Follow.{follows_decides, complete_decides}
 

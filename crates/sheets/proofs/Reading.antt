@@ -1,5 +1,5 @@
 -- Looking fields up by tag: what is found, and what a checked sheet's fields say. Assumes nothing.
-use Rattle.std.proofs.Common.{◌≡◌, ℕ, zero, suc, ◌+◌, ◌<◌, ◌≤◌, Bool, true, false, cond, ◌&&◌, eqb, leb, ◌⊎◌, List, [], ◌∷◌, ◌++◌, map, length, get_or, is_ok, Some, None, Option, sym, refl, ap, ◌∙◌, subst, inl, inr, ⊎_elim, arith}
+use Rattle.std.proofs.Common.{◌≡◌, ℕ, zero, suc, ◌+◌, Bool, true, false, cond, ◌&&◌, eqb, leb, ◌⊎◌, List, [], ◌∷◌, ◌++◌, map, length, is_ok, Some, None, Option, sym, refl, ap, ◌∙◌, subst, inl, inr, ⊎_elim, arith}
 use Rattle.std.specs.Option.{option_map, option_flatten}
 use Rattle.std.specs.List.{slice_get}
 use Rattle.std.proofs.lemmas.Bool.{cases_Bool, cond-true, cond-false, and_parts, eqb-true, false≢true}
@@ -8,7 +8,7 @@ use Rattle.sheets.specs.Fields.{Said, field_of}
 use Rattle.sheets.specs.Grammar.{byte, follows, walk, fault, fits_of, heads_of, belongs_to, highest, lower, room}
 use Rattle.sheets.specs.Reading.{said_at}
 use Rattle.sheets.specs.Refusals.{refused_at, check_of}
-use Rattle.sheets.specs.Sheets.{tagged, placed, first_of}
+use Rattle.sheets.specs.Sheets.{tagged, placed}
 
 pub nth_map : {X Y : Type 0} (g : X → Y) (xs : List X) (k : ℕ) → slice_get (map g xs) k ≡ option_map g (slice_get xs k)
 nth_map g [] k = refl

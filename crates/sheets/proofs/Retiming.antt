@@ -1,18 +1,17 @@
 -- Other bytes for one amount keep a sheet checked and change that amount alone. Assumes nothing.
-use Rattle.std.proofs.Common.{◌≡◌, ℕ, zero, suc, ◌+◌, ◌*◌, ◌/◌, ◌<◌, ◌≤◌, Bool, true, false, cond, ◌&&◌, eqb, leb, ◌⊎◌, List, [], ◌∷◌, ◌++◌, length, get_or, take, drop, set, is_ok, Some, None, sym, refl, ap, ◌∙◌, subst, inl, inr, ⊎_elim, append_assoc, suc-mul, zero-add, zero-mul, div-mul-le_self, arith}
+use Rattle.std.proofs.Common.{◌≡◌, ℕ, zero, suc, ◌+◌, ◌*◌, ◌/◌, ◌<◌, ◌≤◌, true, false, cond, ◌&&◌, eqb, leb, List, [], ◌∷◌, ◌++◌, length, take, drop, set, is_ok, Some, None, sym, refl, ap, ◌∙◌, subst, ⊎_elim, append_assoc, suc-mul, zero-add, zero-mul, div-mul-le_self, arith}
 use native.Mathlib.Nat.{zero-div}
 use Rattle.std.specs.List.{slice_get}
 use Rattle.std.proofs.lemmas.List.{take-append-drop, take_at, drop_at, length-take-le, length-drop, length-append, take-append-le, drop-append-le}
-use Rattle.std.proofs.lemmas.Option.{slice_get-get_or}
 use Rattle.std.proofs.lemmas.Bool.{cases_Bool, cases_eq, cond-true, cond-false, and_parts, eqb-true, leb-true, false≢true}
 use Rattle.sheets.specs.Frames.{Raw, size, fields}
 use Rattle.sheets.specs.Form.{AmountAt, with_amount}
 use Rattle.sheets.specs.Grammar.{byte, entries, some, each_event, belongs_to, fits_of, highest, lower, room, follows, complete, walk, fault, heads_of, interface_ok}
 use Rattle.sheets.specs.Refusals.{refused_at, framing_of, check_of}
-use Rattle.sheets.specs.Sheets.{Sheet, tagged, first_of, no_field, cut, amounts_at, interface_at, sheet_from, sheet_of, replaced}
+use Rattle.sheets.specs.Sheets.{Sheet, tagged, first_of, cut, amounts_at, interface_at, sheet_from, sheet_of, replaced}
 use Rattle.sheets.specs.Split.{Splits, none, more}
 use Rattle.sheets.proofs.Pieces.{length_cut, piece_within}
-use Rattle.sheets.proofs.Reading.{Headed, headed, no_fault, belonging, some_not_none}
+use Rattle.sheets.proofs.Reading.{headed, no_fault, belonging, some_not_none}
 use Rattle.sheets.proofs.Splitting.{take_past, drop_past, unique, framing_splits, splits_framed}
 
 -- the bytes after a part that stays

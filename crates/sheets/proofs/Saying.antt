@@ -1,15 +1,15 @@
 -- What the fields of a checked sheet say is what the sheet's value holds. Assumes nothing.
-use Rattle.std.proofs.Common.{◌≡◌, ℕ, zero, suc, ◌+◌, ◌<◌, ◌≤◌, Bool, true, false, cond, ◌&&◌, eqb, leb, ◌⊎◌, List, [], ◌∷◌, map, length, get_or, take, drop, is_ok, Some, None, Option, unwrap_or, sym, refl, ap, ◌∙◌, subst, inl, inr, ⊎_elim, arith}
+use Rattle.std.proofs.Common.{◌≡◌, ℕ, zero, suc, ◌+◌, ◌≤◌, true, ◌&&◌, eqb, leb, List, [], ◌∷◌, map, length, get_or, take, drop, is_ok, Some, Option, unwrap_or, sym, refl, ap, ◌∙◌, ⊎_elim, arith}
 use Rattle.std.specs.Option.{option_map, option_flatten}
 use Rattle.std.specs.List.{slice_get}
 use Rattle.std.proofs.lemmas.List.{length-map}
-use Rattle.std.proofs.lemmas.Bool.{cases_eq, cond-true, cond-false, and_parts, eqb-true, eq-eqb, leb-true, le-ltb, false≢true}
+use Rattle.std.proofs.lemmas.Bool.{cases_eq, cond-true, and_parts, eqb-true, leb-true, le-ltb, false≢true}
 use Rattle.sheets.specs.Frames.{Raw, fields}
 use Rattle.sheets.specs.Fields.{field_of, kind_of, number_of, end_of, interface_of, transition_of, entry_of, instance_of, connection_of}
 use Rattle.sheets.specs.Grammar.{byte, interface_ok, heads_of}
-use Rattle.sheets.specs.Reading.{said_at, split_of, as_interface, as_amounts, as_actions, as_transition, as_entry, as_instance, as_connection}
+use Rattle.sheets.specs.Reading.{said_at, as_interface, as_amounts, as_actions, as_transition, as_entry, as_instance, as_connection}
 use Rattle.sheets.specs.Refusals.{check_of}
-use Rattle.sheets.specs.Sheets.{tagged, placed, first_of, no_field, sheet_of, count_of, tag_of, offsets_of, actions_at, interface_at, transition_at, served_at, connection_at}
+use Rattle.sheets.specs.Sheets.{tagged, placed, first_of, sheet_of, count_of, tag_of, offsets_of, actions_at, interface_at, transition_at, served_at, connection_at}
 use Rattle.sheets.specs.declared.words.Kind.TheVariants.{Basic}
 use Rattle.sheets.specs.declared.words.Item.{Item}
 use Rattle.sheets.specs.declared.words.Item.TheVariants.{State, Transition, Entry, Instance, Connection}

@@ -1,13 +1,11 @@
 -- One turn of the check of the grammar. Assumes nothing.
-use Rattle.std.proofs.Common.{◌≡◌, ℕ, ◌+◌, ◌<◌, ◌≤◌, Bool, true, false, cond, List, [], ◌∷◌, ◌++◌, length, get_or, drop, replicate, Some, None, Option, sym, refl, ap, ◌∙◌, subst, add-zero, arith}
-use Rattle.std.specs.Option.{option_map}
+use Rattle.std.proofs.Common.{◌≡◌, ℕ, ◌+◌, true, false, cond, List, [], ◌∷◌, ◌++◌, length, get_or, Some, None, sym, ap, ◌∙◌, arith}
 use Rattle.std.proofs.lemmas.List.{get_or-replicate}
 use Rattle.std.proofs.lemmas.Bool.{cond-true, cond-false}
-use Rattle.sheets.specs.Frames.{Raw, size, field_at, fields, Turn}
-use Rattle.sheets.specs.Grammar.{byte, heads_of, walk, fault}
+use Rattle.sheets.specs.Frames.{Raw, size, fields, Turn}
+use Rattle.sheets.specs.Grammar.{walk, fault}
 use Rattle.sheets.specs.Seen.{allows_in, complete_in, Noted, Started}
 use Rattle.sheets.specs.declared.grammar.Seen.{Seen}
-use Rattle.sheets.proofs.Walk.{turn, fields_end}
 use Rattle.sheets.proofs.Rules.{Sums, allows_is, complete_is, sums_more}
 
 -- the fields before `at` may follow one another, s remembers them, and what is left decides

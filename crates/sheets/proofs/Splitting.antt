@@ -1,9 +1,9 @@
 -- The fields that are read are those that lie end to end. Assumes nothing.
-use Rattle.std.proofs.Common.{◌≡◌, ℕ, zero, suc, ◌+◌, ◌-◌, ◌*◌, ◌<◌, ◌≤◌, Bool, true, false, cond, leb, ◌⊎◌, List, [], ◌∷◌, ◌++◌, length, take, drop, is_ok, Some, None, Ok, Err, Option, sym, refl, ap, ◌∙◌, subst, inl, inr, ⊎_elim, append_assoc, append-nil, arith}
+use Rattle.std.proofs.Common.{◌≡◌, ℕ, zero, suc, ◌+◌, ◌*◌, ◌≤◌, true, ◌⊎◌, List, [], ◌∷◌, ◌++◌, length, take, drop, is_ok, Some, None, Ok, Err, Option, sym, refl, ap, ◌∙◌, subst, inl, inr, ⊎_elim, append_assoc, append-nil, arith}
 use Rattle.std.specs.Option.{option_map}
-use Rattle.std.proofs.lemmas.List.{take-append-drop, take_at, drop_at, length-take-le, length-drop, length-append, take_all}
+use Rattle.std.proofs.lemmas.List.{take-append-drop, take_at, drop_at, length-take-le, length-append, take_all}
 use Rattle.std.proofs.lemmas.Bool.{leb-true, le-leb, cond-true, cond-false, eq-eqb, ne_eqb, cases_eq, false≢true}
-use Rattle.sheets.specs.Frames.{Raw, size, field_at, fields, span, Turn}
+use Rattle.sheets.specs.Frames.{Raw, size, field_at, fields, span}
 use Rattle.sheets.specs.Split.{Splits, none, more, Begins, CutAt, Stated, Framing}
 use Rattle.sheets.specs.declared.refusal.Refusal.TheVariants.{Cut}
 use Rattle.sheets.specs.Refusals.{framing_of}

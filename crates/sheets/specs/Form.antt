@@ -2,7 +2,6 @@
 use Rattle.std.specs.Prelude.{◌≡◌, ℕ, ◌+◌, ◌<◌, ◌≤◌, true, cond, List, [], ◌∷◌, length, get_or, is_ok, ◌==◌, slice_index_or, slice_set}
 use Rattle.sheets.specs.Refusals.{framing_of, check_of}
 use Rattle.sheets.specs.Sheets.{Sheet, Served, sheet_of, replaced}
-use Rattle.sheets.specs.declared.words.Kind.{Kind}
 use Rattle.sheets.specs.declared.words.Kind.TheVariants.{Basic, Service, Composite}
 
 -- how many entries an event has

@@ -1,5 +1,5 @@
 -- The grammar by what the check remembers. Assumes nothing.
-use Rattle.std.specs.Prelude.{◌≡◌, ℕ, zero, suc, ◌+◌, ◌≤◌, max, Bool, true, false, cond, ◌&&◌, List, [], ◌∷◌, length, replicate, Some, None, Option, ◌==◌, nat_le, nat_lt, slice_index, slice_set}
+use Rattle.std.specs.Prelude.{◌≡◌, ℕ, zero, suc, ◌+◌, ◌≤◌, Bool, true, false, cond, ◌&&◌, List, length, replicate, Some, None, Option, ◌==◌, nat_le, nat_lt, slice_index, slice_set}
 use Rattle.sheets.specs.Frames.{Raw}
 use Rattle.sheets.specs.Grammar.{byte, heads_of, first_is, belongs_to, fits_of, most_of}
 use Rattle.sheets.specs.declared.grammar.Seen.{Seen}

@@ -1,6 +1,6 @@
 -- A sheet as a value: what its fields say, in order. Later layers speak of this value; offsets serve as a refusal's place.
 -- Assumes nothing.
-use Rattle.std.specs.Prelude.{ℕ, zero, suc, ◌+◌, ◌*◌, ◌/◌, cond, List, [], ◌∷◌, ◌++◌, map, length, take, drop, ◌==◌}
+use Rattle.std.specs.Prelude.{ℕ, zero, suc, ◌+◌, ◌/◌, cond, List, [], ◌∷◌, ◌++◌, map, length, take, drop, ◌==◌}
 use Rattle.std.specs.Option.{unwrap_or}
 use Rattle.sheets.specs.Frames.{Raw, size, fields}
 use Rattle.sheets.specs.Grammar.{byte}

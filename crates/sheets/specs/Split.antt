@@ -1,6 +1,6 @@
 -- Fields end to end, as a relation. Assumes nothing.
 use Rattle.std.specs.Prelude.{◌≡◌, ℕ, ◌+◌, ◌*◌, ◌<◌, List, [], ◌∷◌, ◌++◌, length, take, drop, Ok, Err, Result}
-use Rattle.sheets.specs.Frames.{Raw, span}
+use Rattle.sheets.specs.Frames.{Raw}
 use Rattle.sheets.specs.Refusals.{number, level, place}
 use Rattle.sheets.specs.declared.refusal.Refusal.{Refusal}
 use Rattle.sheets.specs.declared.refusal.Refusal.TheVariants.{Cut}

@@ -1,4 +1,6 @@
 // Sheets: the bytes of one block's description, opened, checked, and read.
+#![tactic(auto)]
+
 pub mod field;
 mod grammar;
 mod lookup;

@@ -1,21 +1,19 @@
 -- The worked cases of basic blocks. Assumes nothing.
-use Rattle.std.proofs.Common.{◌≡◌, ℕ, zero, suc, ◌+◌, ◌<◌, ◌≤◌, ◌⊎◌, List, [], ◌∷◌, ◌++◌, length, get_or, take, Some, None, sym, refl, ap, ◌∙◌, subst, inl, inr, ⊎_elim, arith}
+use Rattle.std.proofs.Common.{◌≡◌, ℕ, zero, suc, ◌<◌, ◌⊎◌, List, [], ◌∷◌, get_or, Some, None, sym, refl, ap, ◌∙◌, subst, inl, inr, ⊎_elim, arith}
 use Rattle.std.specs.List.{ContainsAt as Has}
 use Rattle.std.proofs.ByRecursion.{has_push_cases}
 use Rattle.costs.specs.Amounts.{Amounts}
 use Rattle.costs.specs.Entries.{entry_ops}
-use Rattle.costs.specs.Lists.{By, Among}
 use Rattle.costs.specs.Measures.{ticks_ops, ticks_meant}
 use Rattle.costs.specs.Reducers.{kept}
 use Rattle.costs.specs.declared.entry.Entry.{Entry}
-use Rattle.costs.specs.declared.ticks.Ticks.{Ticks}
 use Rattle.order.specs.Order.{Ready, Order, Complete}
 use Rattle.sheets.specs.Frames.{fields}
 use Rattle.sheets.specs.Sheets.{Sheet, sheet_of}
 use Rattle.sheets.specs.declared.words.Kind.TheVariants.{Basic}
-use Rattle.charts.specs.Forming.{Outcome, made, stops, list}
-use Rattle.charts.specs.Charts.{state_cost, guarded, frees, State, Leads}
-use Rattle.charts.specs.Cards.{put, no_lists, EventList, Events, States, BasicCard}
+use Rattle.charts.specs.Forming.{Outcome, made, list}
+use Rattle.charts.specs.Charts.{state_cost, guarded, State, Leads}
+use Rattle.charts.specs.Cards.{put, no_lists, EventList, Events, States}
 use Rattle.charts.specs.Evaluation.{basic_card}
 use Rattle.charts.proofs.Evaluating.{basic_is}
 use Rattle.charts.proofs.Tables.{events_listed}

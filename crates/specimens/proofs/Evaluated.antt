@@ -1,5 +1,5 @@
 -- What the plain function forms stands in the relation. Assumes nothing.
-use Rattle.std.proofs.Common.{◌≡◌, ℕ, zero, suc, ◌+◌, cond, leb, List, [], ◌∷◌, ◌++◌, length, refl, inl, inr}
+use Rattle.std.proofs.Common.{ℕ, zero, suc, ◌+◌, leb, List, [], ◌∷◌, ◌++◌, length, refl, inl}
 use Rattle.std.specs.List.{flat_map}
 use Rattle.std.proofs.lemmas.Bool.{cond_both, leb-true, leb-false}
 use Rattle.costs.specs.Amounts.{Amounts}
@@ -7,7 +7,7 @@ use Rattle.costs.specs.Entries.{entry_ops}
 use Rattle.costs.specs.Lists.{sums, By}
 use Rattle.costs.specs.declared.entry.Entry.{Entry}
 use Rattle.sheets.specs.Sheets.{Sheet}
-use Rattle.charts.specs.Forming.{Formation, list, long, Reduces, Outcome, made, stops, After}
+use Rattle.charts.specs.Forming.{Formation, list, long, Reduces, Outcome, After}
 use Rattle.charts.specs.Charts.{state_cost, frees, guarded}
 use Rattle.charts.specs.Cards.{put, no_lists, StateList, EventList, Events, States, BasicCard}
 use Rattle.charts.specs.Evaluation.{reduced, after, events_by, state_list, event_list, states_by, basic_card}

@@ -1,4 +1,6 @@
 // The worked cases as theorems, and the code on the same entries.
+#![tactic(auto)]
+
 ghost use Rattle.specimens.specs.Cases.{Cases};
 ghost use Rattle.specimens.specs.ChartCases.{NothingGuarded};
 

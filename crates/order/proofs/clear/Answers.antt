@@ -1,5 +1,5 @@
 -- Every mark is taken away. Assumes nothing.
-use Rattle.std.proofs.Common.{false, sym, ap, ◌∙◌, ⊎_elim, arith}
+use Rattle.std.proofs.Common.{false, ap, ◌∙◌, ⊎_elim, arith}
 use Rattle.std.proofs.lemmas.List.{get_or-set_same, get_or-set_other, get_or_past}
 use Rattle.std.proofs.lemmas.Bool.{cases_eq, cases_lt}
 use Rattle.order.proofs.clear.Goals as goal

@@ -1,8 +1,8 @@
 -- The working order, one node a turn. Assumes nothing.
-use Rattle.std.proofs.Common.{◌≡◌, ℕ, ◌+◌, ◌<◌, true, false, List, [], ◌∷◌, ◌++◌, length, get_or, take, drop, set, sym, refl, ap, ◌∙◌, subst, arith}
+use Rattle.std.proofs.Common.{◌<◌, true, length, take, set, sym, ◌∙◌, subst, arith}
 use borrow.Author.Tests.{clash}
 use Rattle.std.proofs.lemmas.List.{take_more_set}
-use Rattle.order.specs.Order.{Below, Next, Marked, Order, MarksOf}
+use Rattle.order.specs.Order.{Below, Order, MarksOf}
 use Rattle.order.proofs.Orders.{next_same, stuck_same, order_more, marks_more, falses_set, falses_fresh}
 use Rattle.order.proofs.working_order.Goals as goal
 

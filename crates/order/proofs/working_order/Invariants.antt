@@ -1,5 +1,5 @@
 -- What the loop keeps: the order so far, its marks, and how many are left. Assumes nothing.
-use Rattle.std.proofs.Common.{◌≡◌, ℕ, ◌+◌, ◌<◌, length, take}
+use Rattle.std.proofs.Common.{◌≡◌, ◌+◌, length, take}
 use Rattle.order.specs.Order.{Below, Order, MarksOf, falses}
 use Rattle.order.proofs.working_order.Given as goal
 

@@ -1,11 +1,11 @@
 -- The card in the caller's rows, with what is shown of it. Assumes nothing.
-use Rattle.std.proofs.Common.{◌≡◌, ℕ, ◌+◌, ◌*◌, ◌<◌, ◌≤◌, List, [], length, get_or, take, drop, sym, refl, ap, ◌∙◌, subst, arith}
+use Rattle.std.proofs.Common.{◌≡◌, ◌+◌, ◌*◌, get_or, sym, refl, ◌∙◌, subst, arith}
 use Rattle.std.proofs.lemmas.Result.{err_from_is_err_and}
 use Rattle.costs.specs.Entries.{entry_ops}
 use Rattle.sheets.proofs.Forms.{form_of}
-use Rattle.charts.specs.Forming.{made, Outcome}
+use Rattle.charts.specs.Forming.{made}
 use Rattle.charts.specs.Naming.{says}
-use Rattle.charts.specs.Refusals.{list_at, lists_at, CardBy}
+use Rattle.charts.specs.Refusals.{lists_at, CardBy}
 use Rattle.charts.proofs.Promises.{shown, exact, refusal_exact}
 use Rattle.charts.proofs.Segments.{fresh, same_part, same_at, lists_same}
 use Rattle.charts.proofs.card.card.Goals as goal
@@ -24,7 +24,7 @@ work_card-requires g c = record {
 
 pub returns-in_err-work_card : goal.returns-in_err-work_card
 returns-in_err-work_card g c =
-    let p = err_from_is_err_and c.from-residual.result c.from-residual.ensures.1 in
+    let p = err_from_is_err_and c.from_residual.result c.from_residual.ensures.1 in
     let S = says c.args.sheet.now in
     let h = c.in_err-work_card.ensures in
     rw (p.1, p.2) (record { answer = h; rows = refl; lengths = tt; whole = tt; covers = tt; attained = tt; exact = refusal_exact g.M.Measure.ops g.M.Measure.meant g.R.Reducer.gives S _ h })

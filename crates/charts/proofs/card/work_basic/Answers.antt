@@ -1,13 +1,12 @@
 -- The card of a basic block from its states and its events. Assumes nothing.
-use Rattle.std.proofs.Common.{◌≡◌, ℕ, ◌-◌, ◌*◌, ◌≤◌, List, [], length, get_or, take, sym, refl, ap, ◌∙◌, subst, arith}
+use Rattle.std.proofs.Common.{◌-◌, [], take, sym, subst, arith}
 use native.Mathlib.Nat.{sub-zero}
 use Rattle.order.specs.Order.{Complete}
-use Rattle.sheets.specs.declared.words.Kind.{Kind}
-use Rattle.sheets.specs.declared.words.Kind.TheVariants.{Basic, Service, Composite}
+use Rattle.sheets.specs.declared.words.Kind.TheVariants.{Basic}
 use Rattle.sheets.proofs.Forms.{form_of}
-use Rattle.charts.specs.Forming.{made, stops, Outcome}
+use Rattle.charts.specs.Forming.{made, stops}
 use Rattle.charts.specs.Charts.{State, Leads, guarded}
-use Rattle.charts.specs.Cards.{EventBy, Events}
+use Rattle.charts.specs.Cards.{EventBy}
 use Rattle.charts.specs.Naming.{says}
 use Rattle.charts.specs.Refusals.{list_at, lists_at}
 use Rattle.charts.proofs.ByKind.{basic_alone}

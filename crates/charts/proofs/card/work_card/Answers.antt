@@ -1,7 +1,6 @@
 -- The card by the kind of block. Assumes nothing.
-use Rattle.std.proofs.Common.{◌≡◌, ℕ, ◌≤◌, List, [], length, get_or, replicate, sym, refl, ap, ◌∙◌, subst, arith, MatchResult}
-use Rattle.sheets.specs.declared.words.Kind.{Kind}
-use Rattle.sheets.specs.declared.words.Kind.TheVariants.{Basic, Service, Composite}
+use Rattle.std.proofs.Common.{◌≡◌, replicate, sym, refl, ap, ◌∙◌, subst, arith, MatchResult}
+use Rattle.sheets.specs.declared.words.Kind.TheVariants.{Basic}
 use Rattle.charts.specs.Forming.{made, stops}
 use Rattle.charts.specs.Naming.{says}
 use Rattle.charts.specs.Refusals.{list_at, lists_at, CardBy, RefusedBy}

@@ -1,8 +1,6 @@
 -- The algorithm's amount is there, and as wide as the measure's. Assumes nothing.
-use Rattle.std.proofs.Common.{◌≡◌, ℕ, ◌<◌, List, [], length, get_or, Some, sym, refl, ap, ◌∙◌, subst, Bor}
-use Rattle.std.specs.Option.{option_map}
+use Rattle.std.proofs.Common.{ℕ, ◌<◌, List, [], length, get_or, sym, ap, ◌∙◌, subst, Bor}
 use Rattle.std.proofs.lemmas.Option.{slice_get-get_or}
-use Rattle.sheets.specs.Form.{Form}
 use Rattle.sheets.proofs.Forms.{form_of}
 use Rattle.charts.specs.Charts.{Within, algorithm_amount}
 use Rattle.charts.specs.Naming.{says}

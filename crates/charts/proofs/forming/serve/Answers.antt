@@ -1,8 +1,6 @@
 -- The entries of the event, one after another. Assumes nothing.
-use Rattle.std.proofs.Common.{◌≡◌, ℕ, ◌+◌, ◌<◌, ◌≤◌, cond, [], ◌∷◌, ◌++◌, length, get_or, take, drop, sym, refl, ap, ◌∙◌, subst, append-nil, arith}
-use Rattle.std.proofs.lemmas.List.{at_drop_all, at_drop_more, take_more_set, length-append, length-take-le}
-use Rattle.std.proofs.lemmas.Bool.{cond-true, eq-eqb}
-use Rattle.sheets.specs.Form.{served}
+use Rattle.std.proofs.Common.{◌≡◌, ◌+◌, ◌<◌, ◌++◌, length, take, drop, sym, ap, ◌∙◌, subst, append-nil, arith}
+use Rattle.std.proofs.lemmas.List.{at_drop_all, take_more_set, length-append, length-take-le}
 use Rattle.sheets.proofs.Forms.{form_of}
 use Rattle.charts.specs.Charts.{served_entry, served_entries, no_entry}
 use Rattle.charts.specs.Naming.{says}

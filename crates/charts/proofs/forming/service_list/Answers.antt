@@ -1,9 +1,6 @@
 -- The entries of the event, reduced. Assumes nothing.
-use Rattle.std.proofs.Common.{◌≡◌, ◌≤◌, length, take, sym, refl, ap, ◌∙◌, subst, arith}
-use Rattle.std.proofs.lemmas.List.{length-take-le}
-use Rattle.sheets.specs.Form.{Form}
+use Rattle.std.proofs.Common.{length, ap, ◌∙◌, subst, arith}
 use Rattle.sheets.proofs.Forms.{form_of}
-use Rattle.charts.specs.Charts.{served_entries}
 use Rattle.charts.specs.Forming.{Reduces}
 use Rattle.charts.specs.Naming.{says}
 use Rattle.charts.specs.Rows.{Came}

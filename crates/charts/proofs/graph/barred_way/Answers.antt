@@ -1,12 +1,11 @@
 -- A way to a state that is not marked. Assumes nothing.
-use Rattle.std.proofs.Common.{◌≡◌, ℕ, ◌<◌, true, false, ◌⊎◌, List, length, get_or, sym, refl, ap, ◌∙◌, subst, inl, inr, ⊎_elim, arith}
+use Rattle.std.proofs.Common.{◌≡◌, ◌<◌, true, false, length, get_or, sym, refl, ap, ◌∙◌, subst, inl, inr, ⊎_elim, arith}
 use borrow.Author.Tests.{clash}
 use Rattle.std.proofs.ByRecursion.{All-get_or}
 use Rattle.std.proofs.lemmas.List.{at_drop_all}
 use Rattle.std.proofs.lemmas.Bool.{cases_Bool}
 use Rattle.costs.specs.Lists.{Among}
 use Rattle.order.specs.Order.{Marked}
-use Rattle.sheets.specs.declared.words.Transition.{Transition}
 use Rattle.charts.specs.Charts.{is_free, dests, NamedTransition, no_transition}
 use Rattle.charts.specs.Naming.{says}
 use Rattle.charts.proofs.Dests.{among_dests, among_getD, dests_left}

@@ -1,5 +1,5 @@
 -- Within the list, there is one to read. Assumes nothing.
-use Rattle.std.proofs.Common.{◌≡◌, [], get_or, is_some, Some, sym, refl, ap, ◌∙◌}
+use Rattle.std.proofs.Common.{[], get_or, is_some, ap, ◌∙◌}
 use Rattle.std.proofs.lemmas.Option.{slice_get-get_or}
 use Rattle.charts.specs.Charts.{no_action}
 use Rattle.charts.specs.Naming.{says}

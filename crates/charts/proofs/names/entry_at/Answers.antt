@@ -1,5 +1,5 @@
 -- Within the list, there is one to read. Assumes nothing.
-use Rattle.std.proofs.Common.{◌≡◌, get_or, ◌∙◌}
+use Rattle.std.proofs.Common.{get_or, ◌∙◌}
 use Rattle.std.proofs.lemmas.Option.{slice_get-get_or}
 use Rattle.sheets.specs.Shown.{shown_entry}
 use Rattle.charts.specs.Charts.{no_entry}

@@ -1,5 +1,5 @@
 -- The entry's event against the inputs. Assumes nothing.
-use Rattle.std.proofs.Common.{◌≡◌, ap, arith}
+use Rattle.std.proofs.Common.{ap, arith}
 use Rattle.std.proofs.lemmas.Bool.{ltb-true, lt-ltb}
 use Rattle.charts.proofs.names.is_entry_named.Goals as goal
 

@@ -1,7 +1,6 @@
 -- All actions name something. Assumes nothing.
-use Rattle.std.proofs.Common.{◌≡◌, [], get_or, sym, refl, subst, arith}
+use Rattle.std.proofs.Common.{[], get_or, sym, refl, subst, arith}
 use borrow.Author.Tests.{clash}
-use Rattle.std.specs.List.{AllByRecursion as All}
 use Rattle.std.proofs.ByRecursion.{All-more, All-get_or}
 use Rattle.charts.specs.Charts.{NamedAction, no_action}
 use Rattle.charts.specs.Naming.{says}

@@ -1,5 +1,5 @@
 -- An item that is there has an offset. Assumes nothing.
-use Rattle.std.proofs.Common.{◌≡◌, length, is_some, sym, refl, ap, ◌∙◌, arith}
+use Rattle.std.proofs.Common.{is_some, sym, refl, ap, ◌∙◌, arith}
 use Rattle.std.proofs.lemmas.Option.{slice_get-get_or}
 use Rattle.sheets.specs.Sheets.{offsets_of}
 use Rattle.sheets.proofs.Saying.{length_offsets}

@@ -1,5 +1,5 @@
 -- The first that names nothing. Assumes nothing.
-use Rattle.std.proofs.Common.{◌≡◌, [], get_or, sym, refl, subst, arith}
+use Rattle.std.proofs.Common.{[], refl, arith}
 use borrow.Author.Tests.{clash}
 use Rattle.std.specs.List.{AllByRecursion as All}
 use Rattle.std.proofs.ByRecursion.{All-more}

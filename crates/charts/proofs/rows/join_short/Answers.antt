@@ -1,5 +1,5 @@
 -- One list joined with as many rows gives as many. Assumes nothing.
-use Rattle.std.proofs.Common.{◌≡◌, ◌*◌, ◌≤◌, length, take, sym, ap, ◌∙◌, subst, arith}
+use Rattle.std.proofs.Common.{◌≡◌, ◌*◌, length, take, ap, ◌∙◌, subst, arith}
 use Rattle.costs.specs.Entries.{entry_ops}
 use Rattle.costs.specs.Lists.{sums}
 use Rattle.charts.specs.Forming.{Reduces}

@@ -1,5 +1,5 @@
 -- At most 16, or too long. Assumes nothing.
-use Rattle.std.proofs.Common.{length, take, arith}
+use Rattle.std.proofs.Common.{take, arith}
 use Rattle.std.proofs.lemmas.List.{length-take-le}
 use Rattle.charts.proofs.rows.reduce_short.Goals as goal
 

@@ -1,5 +1,5 @@
 -- The list of an event, by the kind of block. Assumes nothing.
-use Rattle.std.proofs.Common.{◌≡◌, sym, refl, ap, ◌∙◌, subst}
+use Rattle.std.proofs.Common.{sym, ◌∙◌, subst}
 use Rattle.charts.specs.Cards.{EventBy}
 use Rattle.charts.specs.Naming.{says}
 use Rattle.charts.specs.Refusals.{list_at}

@@ -1,9 +1,9 @@
 -- The order over the states of the chart. Assumes nothing.
-use Rattle.std.proofs.Common.{◌≡◌, ℕ, ◌-◌, ◌≤◌, List, length, take, sym, refl, ap, ◌∙◌, arith}
+use Rattle.std.proofs.Common.{ℕ, length, take, ap, ◌∙◌, arith}
 use native.Mathlib.Nat.{sub-zero}
 use Rattle.std.proofs.lemmas.List.{length-take-le}
 use Rattle.std.proofs.lemmas.Result.{MatchResult-weaker}
-use Rattle.order.specs.Order.{Below, Planned, Complete, Unworkable}
+use Rattle.order.specs.Order.{Below}
 use Rattle.order.proofs.Orders.{complete_as, unworkable_as}
 use Rattle.sheets.proofs.Forms.{form_of}
 use Rattle.charts.specs.Charts.{State, Leads}

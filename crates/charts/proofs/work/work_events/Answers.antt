@@ -1,5 +1,5 @@
 -- The events, one after another. Assumes nothing.
-use Rattle.std.proofs.Common.{◌≡◌, ℕ, ◌+◌, ◌*◌, ◌<◌, ◌≤◌, length, get_or, take, sym, refl, ap, ◌∙◌, subst, arith}
+use Rattle.std.proofs.Common.{◌≡◌, take, ap, arith}
 use Rattle.costs.specs.Entries.{entry_ops}
 use Rattle.sheets.proofs.Forms.{form_of}
 use Rattle.charts.specs.Cards.{EventBy}

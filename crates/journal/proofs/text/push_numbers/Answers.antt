@@ -1,5 +1,5 @@
 -- The tag, the numbers, and the end of the line.
-use Rattle.std.proofs.Common.{◌≡◌, ◌++◌, string_bytes, codes, decimal, ap, ◌∙◌}
+use Rattle.std.proofs.Common.{◌++◌, string_bytes, codes, decimal, ap, ◌∙◌}
 use Rattle.listing.specs.Lines.{words}
 use Rattle.journal.proofs.Telling.{three_more}
 use Rattle.journal.proofs.text.push_numbers.Goals as goal

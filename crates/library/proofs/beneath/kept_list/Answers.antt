@@ -1,5 +1,5 @@
 -- A start past the rows comes to their end.
-use Rattle.std.proofs.Common.{◌≡◌, ◌*◌, ◌≤◌, List, length, get_or, take, drop, ap, ◌∙◌, arith}
+use Rattle.std.proofs.Common.{◌*◌, ◌≤◌, length, get_or, take, drop, ap, ◌∙◌, arith}
 use Rattle.std.proofs.lemmas.List.{take_all, length-drop}
 use Rattle.library.specs.Tables.{row_at}
 use Rattle.library.specs.declared.row.Row.{Row}

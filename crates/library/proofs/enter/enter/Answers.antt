@@ -1,5 +1,5 @@
 -- The clauses from what was found.
-use Rattle.std.proofs.Common.{◌≡◌, length, refl, subst}
+use Rattle.std.proofs.Common.{length, refl, subst}
 use Rattle.std.proofs.lemmas.Bool.{false≢true}
 use Rattle.library.specs.Books.{rules}
 use Rattle.library.specs.Checks.{Right}

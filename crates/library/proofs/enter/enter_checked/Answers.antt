@@ -1,6 +1,6 @@
 -- The checks in their order, and the block that was kept.
 use Rattle.std.proofs.Common.{◌≡◌, length, refl, ap, ◌∙◌, subst, subst₂, arith}
-use Rattle.sheets.specs.Sheets.{Sheet, sheet_of}
+use Rattle.sheets.specs.Sheets.{sheet_of}
 use Rattle.charts.specs.Naming.{says}
 use Rattle.library.specs.Books.{rules}
 use Rattle.library.specs.Checks.{turned}

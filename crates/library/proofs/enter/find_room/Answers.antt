@@ -1,6 +1,5 @@
 -- The first table that is too short, in their order.
-use Rattle.std.proofs.Common.{◌≡◌, ◌+◌, ◌≤◌, length, arith}
-use Rattle.library.specs.Marks.{kept_end}
+use Rattle.std.proofs.Common.{arith}
 use Rattle.library.proofs.Rooms.{lacks_shelf, lacks_index, lacks_blocks, lacks_cards, lacks_rows, lacks_none}
 use Rattle.library.proofs.enter.find_room.Goals as goal
 

@@ -1,5 +1,5 @@
 -- The card's rows are the first 128.
-use Rattle.std.proofs.Common.{◌≡◌, ◌*◌, length, refl, ap, ◌∙◌, arith}
+use Rattle.std.proofs.Common.{◌*◌, length, refl, ap, ◌∙◌, arith}
 use Rattle.std.proofs.lemmas.List.{length-take-le}
 use Rattle.library.specs.Tables.{overwritten}
 use Rattle.library.proofs.enter.store.Goals as goal

@@ -1,6 +1,5 @@
 -- The tables are filled, and stand for the empty book.
 use Rattle.std.proofs.Common.{◌≡◌, length, replicate, ap, ◌∙◌}
-use Rattle.library.specs.Tables.{no_row}
 use Rattle.library.specs.Books.{rules, empty}
 use Rattle.library.proofs.Begin.{new_stands}
 use Rattle.library.proofs.Soundness.{stands_sound}

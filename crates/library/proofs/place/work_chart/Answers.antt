@@ -1,5 +1,5 @@
 -- What the working of a chart left is a card in its rows.
-use Rattle.std.proofs.Common.{◌≡◌, [], length, arith, rules}
+use Rattle.std.proofs.Common.{◌≡◌, [], length, arith, rules as usual}
 use Rattle.costs.specs.Entries.{entry_ops}
 use Rattle.sheets.proofs.Forms.{form_of}
 use Rattle.charts.specs.Naming.{says}
@@ -21,7 +21,7 @@ returns-in-Ok g c =
     let lens = c.in-Ok.lens in
     let out = c.card.new.out in
     let form = form_of sheet.width.bytes sheet.bytes.now sheet.right in
-    let eight : length lens ≡ 8 = search rules in
+    let eight : length lens ≡ 8 = search usual in
     record {
       answer = λ f cards. chart_card R f cards s c.requires.block out lens e.answer e.lengths.unused;
       rows = card_in (entry_ops g.M.Measure.ops).zero s.face.inputs out lens form.few_inputs (omega arith) eight (chart_sized R (λ _. no-face) (λ _ _. []) s out lens e.whole) e.lengths.unused e.rows.0;

@@ -1,5 +1,5 @@
 -- What the working of a composite left is a card in its rows.
-use Rattle.std.proofs.Common.{◌≡◌, take, arith}
+use Rattle.std.proofs.Common.{take, arith}
 use Rattle.costs.specs.Entries.{entry_ops}
 use Rattle.networks.specs.Networks.{network_of}
 use Rattle.networks.specs.Refusals.{Carded, Unworked}

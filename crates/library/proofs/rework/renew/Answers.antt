@@ -1,5 +1,5 @@
 -- Checks 4 and 7 in their order, and the working.
-use Rattle.std.proofs.Common.{◌≡◌, length, refl, arith}
+use Rattle.std.proofs.Common.{length, refl, arith}
 use Rattle.charts.specs.Naming.{says}
 use Rattle.library.specs.Books.{rules}
 use Rattle.library.specs.Placing.{lent_of, faces_kept}

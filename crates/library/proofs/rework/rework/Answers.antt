@@ -1,5 +1,5 @@
 -- The clauses from what was found.
-use Rattle.std.proofs.Common.{◌≡◌, ◌<◌, true, false, length, sym, refl, ap, ◌∙◌, subst, arith, MatchResult}
+use Rattle.std.proofs.Common.{◌≡◌, ◌<◌, true, false, length, sym, refl, ap, ◌∙◌, subst, MatchResult}
 use Rattle.std.proofs.lemmas.Bool.{false≢true, true≢false}
 use Rattle.sheets.specs.Sheets.{sheet_of}
 use Rattle.sheets.specs.declared.width.Width.{Width}

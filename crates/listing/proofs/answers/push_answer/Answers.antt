@@ -4,14 +4,14 @@ use Rattle.library.specs.Calls.{asked}
 use Rattle.listing.proofs.Answering.{previewed_lines, shown_lines}
 use Rattle.listing.proofs.answers.push_answer.Goals as goal
 
-pub returns-in_ok-push_card : goal.returns-in_ok-push_card
-returns-in_ok-push_card g c =
+pub returns-in_ok-push_card-in-Previewed : goal.returns-in_ok-push_card-in-Previewed
+returns-in_ok-push_card-in-Previewed g c =
     previewed_lines g.M.Spelt.text g.M.Measure.wide c.args.index.now (asked c.args.call.now) c.args.answer.now c.args.rows.now c.tag-in-Previewed.result (string_bytes c.args.text.now) c.tag-in-Previewed.ensures
     c.in-Previewed.lens c.outputs.result (string_bytes c.push_numbers-in-Previewed.new.text) (string_bytes c.push_card.new.text) c.in-Previewed.is c.outputs.ensures
-    c.in_ok-push_numbers.ensures c.in_ok-push_card.ensures
+    c.in_ok-push_numbers-in-Previewed.ensures c.in_ok-push_card-in-Previewed.ensures
 
-pub returns-in_ok-push_list : goal.returns-in_ok-push_list
-returns-in_ok-push_list g c =
+pub returns-in_ok-push_list-in-Shown : goal.returns-in_ok-push_list-in-Shown
+returns-in_ok-push_list-in-Shown g c =
     shown_lines g.M.Spelt.text g.M.Measure.wide c.args.index.now (asked c.args.call.now) c.args.answer.now c.args.rows.now c.tag-in-Shown.result (string_bytes c.args.text.now) c.tag-in-Shown.ensures
     c.in-Shown.len c.min-n.result c.event.result c.outputs-in-Shown.result (string_bytes c.push_numbers-in-Shown.new.text) (string_bytes c.push_list.new.text) c.in-Shown.is c.min-n.ensures
-    c.event.ensures c.outputs-in-Shown.ensures c.in_ok-push_numbers-2.ensures c.in_ok-push_list.ensures
+    c.event.ensures c.outputs-in-Shown.ensures c.in_ok-push_numbers-in-Shown.ensures c.in_ok-push_list-in-Shown.ensures

@@ -1,4 +1,4 @@
-use Rattle.std.proofs.Common.{◌≡◌, ◌<◌, ◌≤◌, min, false, [], length, get_or, take, sym, arith}
+use Rattle.std.proofs.Common.{◌<◌, ◌≤◌, false, [], length, get_or, take, sym, arith}
 use Rattle.std.proofs.lemmas.List.{get_or-take, length-take}
 use Rattle.std.proofs.lemmas.Bool.{not-true, not-false}
 use Rattle.library.specs.declared.row.Row.{Row}

@@ -26,7 +26,7 @@ work_events-requires g c =
 
 pub returns-in_err-work_table : goal.returns-in_err-work_table
 returns-in_err-work_table g c =
-    let p = err_from_is_err_and c.from-residual.result c.from-residual.ensures.1 in
+    let p = err_from_is_err_and c.from_residual.result c.from_residual.ensures.1 in
     rw (p.1, p.2) (record { card = c.in_err-work_table.ensures; finished = tt })
 
 pub returns-in-Err : goal.returns-in-Err

@@ -49,7 +49,7 @@ returns-in_err-work_place g c =
     let T = table_at l.lists l.lens in
     let is = c.card-entries.ensures in
     let broke = c.in_err-work_place.ensures in
-    let p = err_from_is_err_and c.from-residual.result c.from-residual.ensures.1 in
+    let p = err_from_is_err_and c.from_residual.result c.from_residual.ensures.1 in
     rw (p.1, p.2) (subst (TooLongAt ops gives net card) (sym broke.0) (record {
       ws = take l.k-index order;
       order = order_take (Node net) (Leads net card) order l.k-index c.requires.order;

@@ -1,4 +1,4 @@
-use Rattle.std.proofs.Common.{◌≡◌, ◌+◌, ◌-◌, ◌*◌, ◌≤◌, length, take, drop, Some, sym, ap, ◌∙◌, arith, rules}
+use Rattle.std.proofs.Common.{◌≡◌, ◌+◌, ◌-◌, ◌*◌, length, take, drop, Some, sym, ap, ◌∙◌, arith, rules}
 use Rattle.sheets.proofs.Pieces.{nth_cut, piece_within, no_piece}
 use Rattle.sheets.proofs.lookup.piece.Goals as goal
 

@@ -1,4 +1,4 @@
-use Rattle.std.proofs.Common.{◌≡◌, sym, ap, ◌∙◌}
+use Rattle.std.proofs.Common.{sym, ap, ◌∙◌}
 use Rattle.std.proofs.lemmas.Bool.{and_parts, cond-true, cond-false}
 use Rattle.sheets.specs.Refusals.{refused_at, check_of}
 use Rattle.sheets.proofs.Sofar.{no_start, bad_start, start, again, stopped, ended}

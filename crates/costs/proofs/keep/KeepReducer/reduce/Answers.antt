@@ -1,5 +1,5 @@
 -- Each turn keeps or drops one entry.
-use Rattle.std.proofs.Common.{◌≡◌, sym, refl, ap, ◌∙◌, arith}
+use Rattle.std.proofs.Common.{sym, refl, ap, ◌∙◌, arith}
 use Rattle.std.proofs.lemmas.List.{length-take, take_all}
 use Rattle.costs.specs.Entries.{entry_ops}
 use Rattle.costs.specs.Reducers.{kept}
