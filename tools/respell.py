@@ -7,6 +7,7 @@ A name turns if a file of specs/, or a file of lemmas right in proofs/, declares
 file, in the clauses and `ghost use` items of every .rt file, and in the code spans of comments. Names that Rattle makes (of goals, of
 steps and of what a loop leaves) are not declared there and stay; where one has a Rust name in it, as `add-each-requires` has `add_each`,
 that part gets the Rust name's spelling back, in the proof files of functions alone. Functions, strings, inputs and outputs stay.
+The library's `All` of the older kit is `AllByRecursion` today, and another definition has the name: it goes by its own.
 A name that one file gives to an import, as `card as ask-card`, turns within that file.
 It stops, and writes nothing, where two names would fall together. Run again it finds nothing more to turn.
 """
@@ -75,6 +76,14 @@ def aliases(text):
             for name in re.findall(r" as ([A-Za-z]+(?:-[A-Za-z]+)+)(?=[,}])", line):
                 names[name] = name.replace("-", "_").replace("Taken_of", "taken_of")
     return names
+
+
+def all_by_recursion(text):
+    """`AllByRecursion as All`, as port.py leaves it, by its own name."""
+    if "AllByRecursion as All" not in text:
+        return text
+    text = text.replace("AllByRecursion as All", "AllByRecursion")
+    return "\n".join(re.sub(r"(?<![\w.'-])All(?![\w'-])", "AllByRecursion", code) + comment for code, comment in map(code_of, text.split("\n")))
 
 
 def turned(code, table):
@@ -157,6 +166,7 @@ def main():
         new = (antt if path.endswith(".antt") else rust)(text, {**table, **aliases(text)})
         if MADE.search(path):
             new = made(new, words, foreign)
+        new = all_by_recursion(new)
         if new != text:
             count += 1
             if "--check" not in sys.argv:

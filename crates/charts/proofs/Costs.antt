@@ -1,6 +1,6 @@
 -- A state's cost and a service entry are those of what a run does there. Assumes nothing.
 use Rattle.std.proofs.Common.{◌≡◌, ℕ, zero, suc, ◌<◌, ◌≤◌, min, List, [], ◌∷◌, get_or, Some, None, Option, refl, inl, inr, ⊎_elim, arith}
-use Rattle.std.specs.List.{AllByRecursion as All}
+use Rattle.std.specs.List.{AllByRecursion}
 use Rattle.std.proofs.ByRecursion.{All-get_or}
 use Rattle.std.proofs.lemmas.Bool.{cases_lt}
 use Rattle.costs.specs.Amounts.{Amounts}
@@ -17,7 +17,7 @@ output_is ops a n few None within = is_run_alone a
 output_is ops a n few (Some p) within = record { amount = refl; counts = (is_run_once ops p (omega arith)).counts }
 
 module _ {M : Type 0} (ops : Amounts M) (meant : List ℕ → M) (sheet : Sheet) (few : sheet.face.outputs ≤ 8) where
-  actions_are : (more : List Action) → All (NamedAction sheet) more → IsRun (actions_cost ops meant sheet more) (all_cost ops meant sheet more) (all_send more)
+  actions_are : (more : List Action) → AllByRecursion (NamedAction sheet) more → IsRun (actions_cost ops meant sheet more) (all_cost ops meant sheet more) (all_send more)
   actions_are [] all = is_run_alone ops.zero
   actions_are (a ∷ more) all =
       is_run_both ops (action_cost ops meant sheet a) (actions_cost ops meant sheet more) (algorithm_amount ops meant sheet a.algorithm) (all_cost ops meant sheet more) (sends a.output) (all_send more)
@@ -26,7 +26,7 @@ module _ {M : Type 0} (ops : Amounts M) (meant : List ℕ → M) (sheet : Sheet)
   -- what a state costs is what entering it costs and sends
   pub cost_is : Named sheet → (s : ℕ) → State sheet s → IsRun (state_cost ops meant sheet s) (entered_cost ops meant sheet s) (entered_sends sheet s)
   unfolding state_cost
-  cost_is named s state = actions_are (get_or sheet.states s []) (All-get_or (All (NamedAction sheet)) sheet.states s [] state named.states)
+  cost_is named s state = actions_are (get_or sheet.states s []) (All-get_or (AllByRecursion (NamedAction sheet)) sheet.states s [] state named.states)
 
 counts_at : (n : ℕ) (bs : List ℕ) (o : ℕ) → o < n → get_or (first_counts n bs) o 0 ≡ min (get_or bs o 0) 255
 counts_at zero bs o below = absurd (omega arith)

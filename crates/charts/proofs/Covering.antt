@@ -1,6 +1,6 @@
 -- The lists of a basic block cover its runs. Assumes nothing.
 use Rattle.std.proofs.Common.{◌≡◌, ℕ, ◌<◌, ◌≤◌, Bool, List, [], ◌∷◌, length, sym, refl, ap, subst, inl, arith}
-use Rattle.std.specs.List.{flat_map, AllByRecursion as All}
+use Rattle.std.specs.List.{flat_map, AllByRecursion}
 use Rattle.std.proofs.ByRecursion.{All-weaker}
 use Rattle.costs.specs.Amounts.{Amounts, Lawful}
 use Rattle.costs.specs.Entries.{entry_ops}
@@ -20,11 +20,11 @@ use Rattle.charts.proofs.Costs.{cost_is}
 
 module _ {M : Type 0} {ops : Amounts M} (laws : Lawful ops) (meant : List ℕ → M) {gives : List (Entry M) → List (Entry M) → Type 0} (sound : Sound ops gives) (sheet : Sheet)
     (sending : sheet.face.outputs ≤ 8) (few : length sheet.transitions ≤ 64) (named : Named sheet) (T : ℕ → List (Entry M)) (formed : (s : ℕ) → State sheet s → Formed ops meant gives sheet T s) where
-  sized_dests : (p : Transition → Bool) → All (λ d. Sized (T d)) (dests p sheet.transitions)
+  sized_dests : (p : Transition → Bool) → AllByRecursion (λ d. Sized (T d)) (dests p sheet.transitions)
   sized_dests p = all_dests (λ d. Sized (T d)) p sheet.transitions (All-weaker (NamedTransition sheet) (λ t. Sized (T t.destination)) (λ t h. (formed t.destination h.destination).sized) sheet.transitions named.transitions)
 
   pub short : (p : Transition → Bool) (ds : List ℕ) → ds ≡ dests p sheet.transitions → length (flat_map T ds) ≤ 1024
-  short p ds is = omega (arith, long_joined T ds (subst (λ l. All (λ d. Sized (T d)) l) (sym is) (sized_dests p)), ap length is, few_dests p sheet.transitions)
+  short p ds is = omega (arith, long_joined T ds (subst (λ l. AllByRecursion (λ d. Sized (T d)) l) (sym is) (sized_dests p)), ap length is, few_dests p sheet.transitions)
 
   -- the cost with an entry of some destination's list is covered in the state's list
   through : (p : Transition → Bool) (cost : Entry M) (ds : List ℕ) → ds ≡ dests p sheet.transitions → (es : List (Entry M)) → StateList ops gives T cost ds (list es)
@@ -37,7 +37,7 @@ module _ {M : Type 0} {ops : Amounts M} (laws : Lawful ops) (meant : List ℕ �
       (covered_sums el (cost ∷ []) whole cost e (covered_itself el cost (cost ∷ []) (inl refl)) (covered_itself el e whole (among_joined T e d (x ∷ ds) m n)))
 
   -- stopping in the state
-  stops_there : (p : Transition → Bool) (cost : Entry M) (ds : List ℕ) → ds ≡ dests p sheet.transitions → (es : List (Entry M)) → StateList ops gives T cost ds (list es) → All (λ d. Sized (T d)) ds
+  stops_there : (p : Transition → Bool) (cost : Entry M) (ds : List ℕ) → ds ≡ dests p sheet.transitions → (es : List (Entry M)) → StateList ops gives T cost ds (list es) → AllByRecursion (λ d. Sized (T d)) ds
       → (a : M) (ns : Sent) → CoversRun ops cost a ns → CoveredRun ops es a ns
   stops_there p cost [] is es h all a ns covers = record { entry = cost; listed = subst (Among cost) (sym h) (inl refl); covers = covers }
   stops_there p cost (x ∷ ds) is es h all a ns covers =
@@ -68,7 +68,7 @@ module _ {M : Type 0} {ops : Amounts M} (laws : Lawful ops) (meant : List ℕ �
   event_through p (x ∷ ds) is es h d m e n =
       covered_reduced laws sound (flat_map T (x ∷ ds)) es e (short p (x ∷ ds) is) h.0 (covered_itself (entry_lawful laws) e (flat_map T (x ∷ ds)) (among_joined T e d (x ∷ ds) m n))
 
-  some_entry : (p : Transition → Bool) (ds : List ℕ) → ds ≡ dests p sheet.transitions → (es : List (Entry M)) → EventList ops gives T ds (list es) → All (λ d. Sized (T d)) ds → (e : Entry M) × Among e es
+  some_entry : (p : Transition → Bool) (ds : List ℕ) → ds ≡ dests p sheet.transitions → (es : List (Entry M)) → EventList ops gives T ds (list es) → AllByRecursion (λ d. Sized (T d)) ds → (e : Entry M) × Among e es
   some_entry p [] is es h all = ((entry_ops ops).zero, subst (Among (entry_ops ops).zero) (sym h) (inl refl))
   some_entry p (x ∷ ds) is es h all =
       let first = one_among (T x) all.0.0 in

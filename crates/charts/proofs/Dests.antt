@@ -1,7 +1,7 @@
 -- Where the transitions that pass a test lead. Assumes nothing.
 use Rattle.std.proofs.Common.{◌≡◌, ℕ, zero, suc, ◌+◌, ◌*◌, ◌<◌, ◌≤◌, Bool, true, false, eqb, ◌⊎◌, List, [], ◌∷◌, ◌++◌, length, get_or, drop, Some, None, Option, sym, refl, ap, ◌∙◌, subst, inl, inr, ⊎_elim, arith}
 use borrow.Author.Tests.{clash}
-use Rattle.std.specs.List.{flat_map, AllByRecursion as All}
+use Rattle.std.specs.List.{flat_map, AllByRecursion}
 use Rattle.std.proofs.lemmas.List.{length-append, at_drop_more}
 use Rattle.std.proofs.lemmas.Bool.{cond-true, cond-false, cases_Bool, cond_both, eqb-true, eq-eqb, and_parts, and_from}
 use Rattle.costs.specs.Lists.{Among, Sized}
@@ -51,17 +51,17 @@ from_dests p (u ∷ ts) d h =
     (λ isnt. later p u ts d (from_dests p ts d (subst (Among d) (cond-false (p u) (u.destination ∷ dests p ts) (dests p ts) isnt) h)))
     (cases_Bool (p u))
 
-pub all_dests : (P : ℕ → Type 0) (p : Transition → Bool) (ts : List Transition) → All (λ t. P t.destination) ts → All P (dests p ts)
+pub all_dests : (P : ℕ → Type 0) (p : Transition → Bool) (ts : List Transition) → AllByRecursion (λ t. P t.destination) ts → AllByRecursion P (dests p ts)
 all_dests P p [] all = tt
 all_dests P p (u ∷ ts) all =
     let rest = all_dests P p ts all.1 in
-    cond_both (p u) (u.destination ∷ dests p ts) (dests p ts) (All P) (λ _. (all.0, rest)) (λ _. rest)
+    cond_both (p u) (u.destination ∷ dests p ts) (dests p ts) (AllByRecursion P) (λ _. (all.0, rest)) (λ _. rest)
 
 pub few_dests : (p : Transition → Bool) (ts : List Transition) → length (dests p ts) ≤ length ts
 few_dests p [] = omega arith
 few_dests p (u ∷ ts) = let rest = few_dests p ts in cond_both (p u) (u.destination ∷ dests p ts) (dests p ts) (λ l. length l ≤ suc (length ts)) (λ _. omega arith) (λ _. omega arith)
 
-pub long_joined : {X : Type 0} (T : ℕ → List X) (ds : List ℕ) → All (λ d. Sized (T d)) ds → length (flat_map T ds) ≤ 16 * length ds
+pub long_joined : {X : Type 0} (T : ℕ → List X) (ds : List ℕ) → AllByRecursion (λ d. Sized (T d)) ds → length (flat_map T ds) ≤ 16 * length ds
 long_joined T [] all = omega arith
 long_joined T (d ∷ ds) all = omega (arith, length-append (T d) (flat_map T ds), all.0.1, long_joined T ds all.1)
 

@@ -1,6 +1,6 @@
 -- What the states' lists, formed in working order, are over the table that they end in. Assumes nothing.
 use Rattle.std.proofs.Common.{◌≡◌, ℕ, zero, suc, ◌+◌, ◌<◌, ◌≤◌, eqb, List, [], ◌∷◌, ◌++◌, length, get_or, take, sym, refl, ap, ◌∙◌, subst, inl, ⊎_elim, append_assoc, arith}
-use Rattle.std.specs.List.{ContainsAt as Has, flat_map, AllByRecursion as All}
+use Rattle.std.specs.List.{ContainsAt as Has, flat_map, AllByRecursion}
 use Rattle.std.proofs.ByRecursion.{has_append_left, has_push_cases}
 use Rattle.std.proofs.lemmas.List.{length-append, length_push, take_at, get_or_at, get_or_push, get_or_append_left}
 use Rattle.std.proofs.lemmas.Bool.{cond-true, cond-false, eq-eqb, ne_eqb, cases_eq}
@@ -50,7 +50,7 @@ module _ {M : Type 0} (ops : Amounts M) (meant : List ℕ → M) (gives : List (
   list_same T V cost (d ∷ ds) o same h = subst (λ l. Reduces gives (sums (entry_ops ops) (cost ∷ []) l) o) (joined_same T V (d ∷ ds) same) h
 
   module _ (sound : Sound ops gives) (few : length sheet.transitions ≤ 64) where
-    sized_list : (T : ℕ → List (Entry M)) (cost : Entry M) (ds : List ℕ) → All (λ d. Sized (T d)) ds → length ds ≤ 64 → (xs : List (Entry M)) → StateList ops gives T cost ds (list xs) → Sized xs
+    sized_list : (T : ℕ → List (Entry M)) (cost : Entry M) (ds : List ℕ) → AllByRecursion (λ d. Sized (T d)) ds → length ds ≤ 64 → (xs : List (Entry M)) → StateList ops gives T cost ds (list xs) → Sized xs
     sized_list T cost [] all short xs h = (omega (arith, ap length h), omega (arith, ap length h))
     sized_list T cost (d ∷ ds) all short xs (given, most) =
         let whole = flat_map T (d ∷ ds) in

@@ -1,6 +1,6 @@
 -- What the sheet of a basic or a service block says: costs of states, where transitions lead, entries of events, and which numbers name something. Assumes nothing.
 use Rattle.std.specs.Prelude.{ℕ, ◌<◌, Bool, true, false, cond, ◌&&◌, List, [], ◌∷◌, length, Some, None, Option, ◌==◌, slice_index_or}
-use Rattle.std.specs.List.{AllByRecursion as All}
+use Rattle.std.specs.List.{AllByRecursion}
 use Rattle.costs.specs.Amounts.{Amounts}
 use Rattle.costs.specs.Entries.{counts_of, no_counts, one_count, entry_ops}
 use Rattle.costs.specs.Lists.{Among}
@@ -116,6 +116,6 @@ NamedEntry sheet x = x.event < sheet.face.inputs
 
 -- every number of a basic or a service sheet names something
 pub record Named (sheet : Sheet) : Type 0 where
-  pub states : All (All (NamedAction sheet)) sheet.states
-  pub transitions : All (NamedTransition sheet) sheet.transitions
-  pub entries : All (NamedEntry sheet) sheet.entries
+  pub states : AllByRecursion (AllByRecursion (NamedAction sheet)) sheet.states
+  pub transitions : AllByRecursion (NamedTransition sheet) sheet.transitions
+  pub entries : AllByRecursion (NamedEntry sheet) sheet.entries

@@ -1,6 +1,6 @@
 -- What the check of names answers: accepted where every number names something, else the first field that has one that does not. Assumes nothing.
 use Rattle.std.specs.Prelude.{◌≡◌, ℕ, ◌+◌, ◌<◌, List, length, take, Some, Ok, Err, Result}
-use Rattle.std.specs.List.{slice_get, AllByRecursion as All}
+use Rattle.std.specs.List.{slice_get, AllByRecursion}
 use Rattle.sheets.specs.Sheets.{Sheet, sheet_of, offsets_of}
 use Rattle.sheets.specs.declared.opened.Checked.{Checked}
 use Rattle.sheets.specs.declared.words.Item.{Item}
@@ -16,8 +16,8 @@ says c = sheet_of c.width.bytes c.bytes.now
 -- k is the first element of which P does not hold
 pub record First {X : Type 0} (P : X → Type 0) (xs : List X) (k : ℕ) : Type 0 where
   pub within : k < length xs
-  pub before : All P (take k xs)
-  pub fails : All P (take (k + 1) xs) → ⊥
+  pub before : AllByRecursion P (take k xs)
+  pub fails : AllByRecursion P (take (k + 1) xs) → ⊥
 
 -- the field of the k-th item stands at offset p, in bytes
 abbrev pub OffsetOf : Checked → Item → ℕ → ℕ → Type 0
@@ -25,9 +25,9 @@ OffsetOf c item k p = slice_get (offsets_of item c.bytes.now) k ≡ Some p
 
 -- p is the offset of the first field, in sheet order, that has a number that names nothing: states come before transitions, which come before entries
 pub data UnnamedAt (c : Checked) (p : ℕ) : Type 0 where
-  in_state : (k : ℕ) → First (All (NamedAction (says c))) (says c).states k → OffsetOf c State k p → UnnamedAt c p
-  in_transition : (k : ℕ) → All (All (NamedAction (says c))) (says c).states → First (NamedTransition (says c)) (says c).transitions k → OffsetOf c Transition k p → UnnamedAt c p
-  in_entry : (k : ℕ) → All (All (NamedAction (says c))) (says c).states → All (NamedTransition (says c)) (says c).transitions → First (NamedEntry (says c)) (says c).entries k → OffsetOf c Entry k p → UnnamedAt c p
+  in_state : (k : ℕ) → First (AllByRecursion (NamedAction (says c))) (says c).states k → OffsetOf c State k p → UnnamedAt c p
+  in_transition : (k : ℕ) → AllByRecursion (AllByRecursion (NamedAction (says c))) (says c).states → First (NamedTransition (says c)) (says c).transitions k → OffsetOf c Transition k p → UnnamedAt c p
+  in_entry : (k : ℕ) → AllByRecursion (AllByRecursion (NamedAction (says c))) (says c).states → AllByRecursion (NamedTransition (says c)) (says c).transitions → First (NamedEntry (says c)) (says c).entries k → OffsetOf c Entry k p → UnnamedAt c p
 
 -- refusal 5, level 1, at the first such field; accepted in every other case
 abbrev pub Naming : Checked → Result Unit Refusal → Type 0

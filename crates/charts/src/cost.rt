@@ -1,6 +1,6 @@
 // What a state costs: the sum of its actions.
 ghost use Rattle.std.specs.Prelude.{◌≡◌, ℕ, ◌<◌, ◌≤◌, List, [], length};
-ghost use Rattle.std.specs.List.{AllByRecursion as All};
+ghost use Rattle.std.specs.List.{AllByRecursion};
 ghost use Rattle.charts.specs.Charts.{Within, NamedAction, Named, State, output_counts, algorithm_amount, action_cost, actions_cost, state_cost};
 ghost use Rattle.charts.specs.Naming.{says};
 

@@ -1,6 +1,6 @@
 // The check of names: every number of a basic or a service sheet names something.
 ghost use Rattle.std.specs.Prelude.{◌≡◌, ℕ, ◌<◌, List, [], ◌∷◌, length, None, Decides, MatchOption, slice_index_or};
-ghost use Rattle.std.specs.List.{AllByRecursion as All};
+ghost use Rattle.std.specs.List.{AllByRecursion};
 ghost use Rattle.sheets.specs.Sheets.{count_of};
 ghost use Rattle.sheets.specs.Shown.{shown_entry};
 ghost use Rattle.charts.specs.Charts.{Within, NamedAction, NamedTransition, NamedEntry, no_action, no_transition, no_entry};
@@ -56,7 +56,7 @@ fn is_action_named(sheet: &Checked<'_>, action: Action) -> bool
 
 // Whether all actions of state k name something.
 fn is_state_named(sheet: &Checked<'_>, k: usize) -> bool
-    ensures { Decides result (All (NamedAction (says sheet.now)) (slice_index_or (says sheet.now).states k [])) }
+    ensures { Decides result (AllByRecursion (NamedAction (says sheet.now)) (slice_index_or (says sheet.now).states k [])) }
 {
     for j in 0..sheet.actions(k) {
         if !is_action_named(sheet, action_at(sheet, k, j)) {
@@ -86,7 +86,7 @@ fn is_entry_named(sheet: &Checked<'_>, k: usize) -> bool
 
 // The first state that has a number that names nothing.
 fn unnamed_state(sheet: &Checked<'_>) -> Option<usize>
-    ensures { MatchOption result (All (All (NamedAction (says sheet.now))) (says sheet.now).states) (First (All (NamedAction (says sheet.now))) (says sheet.now).states) }
+    ensures { MatchOption result (AllByRecursion (AllByRecursion (NamedAction (says sheet.now))) (says sheet.now).states) (First (AllByRecursion (NamedAction (says sheet.now))) (says sheet.now).states) }
 {
     for k in 0..sheet.count(Item::State) {
         if !is_state_named(sheet, k) {
@@ -98,7 +98,7 @@ fn unnamed_state(sheet: &Checked<'_>) -> Option<usize>
 
 // The first transition that has one.
 fn unnamed_transition(sheet: &Checked<'_>) -> Option<usize>
-    ensures { MatchOption result (All (NamedTransition (says sheet.now)) (says sheet.now).transitions) (First (NamedTransition (says sheet.now)) (says sheet.now).transitions) }
+    ensures { MatchOption result (AllByRecursion (NamedTransition (says sheet.now)) (says sheet.now).transitions) (First (NamedTransition (says sheet.now)) (says sheet.now).transitions) }
 {
     for k in 0..sheet.count(Item::Transition) {
         if !is_transition_named(sheet, transition_at(sheet, k)) {
@@ -110,7 +110,7 @@ fn unnamed_transition(sheet: &Checked<'_>) -> Option<usize>
 
 // The first entry that has one.
 fn unnamed_entry(sheet: &Checked<'_>) -> Option<usize>
-    ensures { MatchOption result (All (NamedEntry (says sheet.now)) (says sheet.now).entries) (First (NamedEntry (says sheet.now)) (says sheet.now).entries) }
+    ensures { MatchOption result (AllByRecursion (NamedEntry (says sheet.now)) (says sheet.now).entries) (First (NamedEntry (says sheet.now)) (says sheet.now).entries) }
 {
     for k in 0..sheet.count(Item::Entry) {
         if !is_entry_named(sheet, k) {

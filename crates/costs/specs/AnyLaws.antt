@@ -1,7 +1,7 @@
 -- `any`, by a loop, by elements, and over two lists. Assumes nothing.
 use Rattle.std.specs.Prelude.{◌≡◌, ℕ, zero, suc, ◌+◌, ◌<◌, Bool, true, false, ◌&&◌, ◌||◌, List, [], ◌∷◌, ◌++◌, length, take, slice_index_or, refl}
 use Rattle.std.proofs.Common.{◌∙◌, sym, ap, inl, inr, ⊎_elim, arith}
-use Rattle.std.specs.List.{AllByRecursion as All}
+use Rattle.std.specs.List.{AllByRecursion}
 use Rattle.std.proofs.lemmas.List.{take_more}
 use Rattle.std.proofs.lemmas.Bool.{or_left, or_right, or_from, or_parts, cases_Bool, both_ways}
 use Rattle.costs.specs.Lists.{Among}
@@ -47,7 +47,7 @@ module _ {X : Type 0} where
   any_found p (y ∷ ys) zero x l r h = or_left _ _ (ap p (sym r) ∙ h)
   any_found p (y ∷ ys) (suc i) x l r h = or_right (p y) _ (any_found p ys i x (omega arith) r h)
 
-  pub any_none : (p : X → Bool) (xs : List X) → All (λ x. p x ≡ false) xs → any p xs ≡ false
+  pub any_none : (p : X → Bool) (xs : List X) → AllByRecursion (λ x. p x ≡ false) xs → any p xs ≡ false
   any_none p [] h = refl
   any_none p (x ∷ xs) h = or_from _ _ h.0 (any_none p xs h.1)
 

@@ -3,7 +3,7 @@ use Rattle.std.specs.Prelude.{◌≡◌, ℕ, ◌+◌, ◌<◌, ◌≤◌, Bool,
 use Rattle.std.proofs.Common.{◌∙◌, arith}
 use Rattle.std.proofs.Math.Path.{sym, ap, subst, refl}
 use Rattle.std.proofs.Math.Logic.{inl, inr, ⊎_elim}
-use Rattle.std.specs.List.{AllByRecursion as All}
+use Rattle.std.specs.List.{AllByRecursion}
 use Rattle.std.proofs.lemmas.List.{append-nil, append_assoc, length-append, length-take, length-drop, take_more, take_more_set, take-append-le, drop-set-lt}
 use Rattle.std.proofs.lemmas.Slice.{drop-append-drop}
 use Rattle.std.proofs.lemmas.Bool.{and_left, and_right, and_from, and_parts, not_from_true, not_from_false, not-true, cases_Bool, both_ways, cond_both}
@@ -36,7 +36,7 @@ pick p false true false y k e = sym (ap (λ t. cond t (y ∷ filter p k) (filter
 pick p false false true y k e = refl
 pick p false false false y k e = sym (ap (λ t. cond t (y ∷ filter p k) (filter p k)) e)
 
-kept_by_all : {X : Type 0} (p : X → Bool) (xs : List X) → All (λ x. p x ≡ true) xs → filter p xs ≡ xs
+kept_by_all : {X : Type 0} (p : X → Bool) (xs : List X) → AllByRecursion (λ x. p x ≡ true) xs → filter p xs ≡ xs
 kept_by_all p [] h = refl
 kept_by_all p (x ∷ xs) h = ap (λ t. cond t (x ∷ filter p xs) (filter p xs)) h.0 ∙ ap (λ l. x ∷ l) (kept_by_all p xs h.1)
 
@@ -138,7 +138,7 @@ module _ {X : Type 0} {ops : Amounts X} (laws : Lawful ops) where
   unbeaten x y m false e h =
       ⊎_elim (λ t. absurd (both_ways _ e (laws.transitive y m x t h))) (λ f. and_left _ _ f) (cases_Bool (ops.covers y m))
 
-  climb_highest : (x : X) (ys : List X) → All (λ y. beats ops y (climb ops x ys) ≡ false) ys
+  climb_highest : (x : X) (ys : List X) → AllByRecursion (λ y. beats ops y (climb ops x ys) ≡ false) ys
   unfolding climb
   climb_highest x [] = tt
   climb_highest x (y ∷ ys) = (unbeaten x y _ _ refl (climb_covers (cond (ops.covers y x) y x) ys), climb_highest (cond (ops.covers y x) y x) ys)
@@ -233,7 +233,7 @@ module _ {X : Type 0} {ops : Amounts X} (laws : Lawful ops) where
       ∙ ap (λ b. filter (λ y. not (beats ops x y)) (kept_after ops xs [] xs) ++ cond b (x ∷ []) []) (last_stays ops xs x ∙ ap not (any_kept xs x))
 
   -- what a kept one covers beats no kept one
-  covered_beats_none : (xs : List X) (x : X) → any (λ y. ops.covers y x) (kept ops xs) ≡ true → All (λ y. not (beats ops x y) ≡ true) (kept ops xs)
+  covered_beats_none : (xs : List X) (x : X) → any (λ y. ops.covers y x) (kept ops xs) ≡ true → AllByRecursion (λ y. not (beats ops x y) ≡ true) (kept ops xs)
   unfolding kept
   covered_beats_none xs x t =
       let one = any_has (λ y. ops.covers y x) (kept ops xs) t in

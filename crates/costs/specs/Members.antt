@@ -1,17 +1,17 @@
 -- What stands in a list. Assumes nothing.
 use Rattle.std.specs.Prelude.{◌≡◌, ◌*◌, ◌≤◌, ◌⊎◌, List, [], ◌∷◌, ◌++◌, map, length, refl}
 use Rattle.std.proofs.Common.{sym, ap, subst, inl, inr, ⊎_elim, arith, add-mul}
-use Rattle.std.specs.List.{flat_map, AllByRecursion as All}
+use Rattle.std.specs.List.{flat_map, AllByRecursion}
 use Rattle.std.proofs.lemmas.List.{length-append, length-map}
 use Rattle.costs.specs.Amounts.{Amounts}
 use Rattle.costs.specs.Lists.{Among, sums}
 
-pub among_all : {X : Type 0} (P : X → Type 0) (x : X) (xs : List X) → All P xs → Among x xs → P x
+pub among_all : {X : Type 0} (P : X → Type 0) (x : X) (xs : List X) → AllByRecursion P xs → Among x xs → P x
 among_all P x [] all h = absurd h
 among_all P x (y ∷ ys) all (inl e) = subst P e all.0
 among_all P x (y ∷ ys) all (inr h) = among_all P x ys all.1 h
 
-pub all_among : {X : Type 0} (P : X → Type 0) (xs : List X) → ((x : X) → Among x xs → P x) → All P xs
+pub all_among : {X : Type 0} (P : X → Type 0) (xs : List X) → ((x : X) → Among x xs → P x) → AllByRecursion P xs
 all_among P [] h = tt
 all_among P (x ∷ xs) h = (h x (inl refl), all_among P xs (λ y a. h y (inr a)))
 

@@ -1,6 +1,6 @@
 -- Each check turns down at one place at most, and not where it passes. Assumes nothing.
 use Rattle.std.proofs.Common.{◌≡◌, ℕ, ◌+◌, ◌<◌, true, List, take, is_ok, Some, Ok, Err, Result, sym, ap, ◌∙◌, subst, ap₂, subst₂, inl, inr, ⊎_elim, arith}
-use Rattle.std.specs.List.{slice_get, ContainsAt as Has, AllByRecursion as All}
+use Rattle.std.specs.List.{slice_get, ContainsAt as Has, AllByRecursion}
 use Rattle.std.proofs.ByRecursion.{All-take}
 use Rattle.std.proofs.lemmas.List.{take-take}
 use Rattle.std.proofs.lemmas.Bool.{cases_order, false≢true}
@@ -80,9 +80,9 @@ same_told t u n l p = λ i. record { number = n i; level = l i; place = p i }
 
 -- check 5 of a basic or a service sheet, by what the bytes say
 pub data Unnamed (s : Sheet) (bs : List ℕ) (p : ℕ) : Type 0 where
-  by_state : (k : ℕ) → FirstFails (All (NamedAction s)) s.states k → slice_get (offsets_of State bs) k ≡ Some p → Unnamed s bs p
-  by_transition : (k : ℕ) → All (All (NamedAction s)) s.states → FirstFails (NamedTransition s) s.transitions k → slice_get (offsets_of Transition bs) k ≡ Some p → Unnamed s bs p
-  by_entry : (k : ℕ) → All (All (NamedAction s)) s.states → All (NamedTransition s) s.transitions → FirstFails (NamedEntry s) s.entries k → slice_get (offsets_of Entry bs) k ≡ Some p → Unnamed s bs p
+  by_state : (k : ℕ) → FirstFails (AllByRecursion (NamedAction s)) s.states k → slice_get (offsets_of State bs) k ≡ Some p → Unnamed s bs p
+  by_transition : (k : ℕ) → AllByRecursion (AllByRecursion (NamedAction s)) s.states → FirstFails (NamedTransition s) s.transitions k → slice_get (offsets_of Transition bs) k ≡ Some p → Unnamed s bs p
+  by_entry : (k : ℕ) → AllByRecursion (AllByRecursion (NamedAction s)) s.states → AllByRecursion (NamedTransition s) s.transitions → FirstFails (NamedEntry s) s.entries k → slice_get (offsets_of Entry bs) k ≡ Some p → Unnamed s bs p
 
 said_unnamed : (c : Checked) (p : ℕ) → UnnamedAt c p → Unnamed (says c) c.bytes.now p
 said_unnamed c p (in_state k first at) = by_state k first at
@@ -90,11 +90,11 @@ said_unnamed c p (in_transition k states first at) = by_transition k states firs
 said_unnamed c p (in_entry k states transitions first at) = by_entry k states transitions first at
 
 module _ {X : Type 0} (P : X → Type 0) (xs : List X) where
-  fails_apart : (k : ℕ) → FirstFails P xs k → All P xs → ⊥
+  fails_apart : (k : ℕ) → FirstFails P xs k → AllByRecursion P xs → ⊥
   fails_apart k h all = h.fails (All-take P (k + 1) xs all)
 
   fails_low : (j k : ℕ) → j < k → FirstFails P xs j → FirstFails P xs k → ⊥
-  fails_low j k lt g h = g.fails (subst (All P) (take-take (j + 1) k xs (omega (arith, lt))) (All-take P (j + 1) (take k xs) h.before))
+  fails_low j k lt g h = g.fails (subst (AllByRecursion P) (take-take (j + 1) k xs (omega (arith, lt))) (All-take P (j + 1) (take k xs) h.before))
 
   fails_one : (j k : ℕ) → FirstFails P xs j → FirstFails P xs k → j ≡ k
   fails_one j k g h = ⊎_elim (λ e. e) (λ apart. ⊎_elim (λ lt. absurd (fails_low j k lt g h)) (λ gt. absurd (fails_low k j gt h g)) apart) (cases_order j k)
@@ -104,13 +104,13 @@ pub placed_one : (offsets : List ℕ) (j k p q : ℕ) → j ≡ k → slice_get 
 placed_one offsets j k p q e g h = same_some p q (sym g ∙ ap (slice_get offsets) e ∙ h)
 
 unnamed_one : (s : Sheet) (bs : List ℕ) (p q : ℕ) → Unnamed s bs p → Unnamed s bs q → p ≡ q
-unnamed_one s bs p q (by_state j g at) (by_state k h to) = placed_one (offsets_of State bs) j k p q (fails_one (All (NamedAction s)) s.states j k g h) at to
-unnamed_one s bs p q (by_state j g at) (by_transition k states h to) = absurd (fails_apart (All (NamedAction s)) s.states j g states)
-unnamed_one s bs p q (by_state j g at) (by_entry k states transitions h to) = absurd (fails_apart (All (NamedAction s)) s.states j g states)
-unnamed_one s bs p q (by_transition j states g at) (by_state k h to) = absurd (fails_apart (All (NamedAction s)) s.states k h states)
+unnamed_one s bs p q (by_state j g at) (by_state k h to) = placed_one (offsets_of State bs) j k p q (fails_one (AllByRecursion (NamedAction s)) s.states j k g h) at to
+unnamed_one s bs p q (by_state j g at) (by_transition k states h to) = absurd (fails_apart (AllByRecursion (NamedAction s)) s.states j g states)
+unnamed_one s bs p q (by_state j g at) (by_entry k states transitions h to) = absurd (fails_apart (AllByRecursion (NamedAction s)) s.states j g states)
+unnamed_one s bs p q (by_transition j states g at) (by_state k h to) = absurd (fails_apart (AllByRecursion (NamedAction s)) s.states k h states)
 unnamed_one s bs p q (by_transition j states g at) (by_transition k also h to) = placed_one (offsets_of Transition bs) j k p q (fails_one (NamedTransition s) s.transitions j k g h) at to
 unnamed_one s bs p q (by_transition j states g at) (by_entry k also transitions h to) = absurd (fails_apart (NamedTransition s) s.transitions j g transitions)
-unnamed_one s bs p q (by_entry j states transitions g at) (by_state k h to) = absurd (fails_apart (All (NamedAction s)) s.states k h states)
+unnamed_one s bs p q (by_entry j states transitions g at) (by_state k h to) = absurd (fails_apart (AllByRecursion (NamedAction s)) s.states k h states)
 unnamed_one s bs p q (by_entry j states transitions g at) (by_transition k also h to) = absurd (fails_apart (NamedTransition s) s.transitions k h transitions)
 unnamed_one s bs p q (by_entry j states transitions g at) (by_entry k also too h to) = placed_one (offsets_of Entry bs) j k p q (fails_one (NamedEntry s) s.entries j k g h) at to
 

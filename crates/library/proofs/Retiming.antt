@@ -1,6 +1,6 @@
 -- What a retime does to the book and to the tables that stand for it. Assumes nothing.
 use Rattle.std.proofs.Common.{◌≡◌, ℕ, zero, suc, ◌+◌, ◌<◌, ◌≤◌, Bool, true, ◌⊎◌, List, [], ◌∷◌, length, take, drop, Some, None, Option, sym, refl, ap, ◌∙◌, subst, inl, inr, ⊎_elim, arith}
-use Rattle.std.specs.List.{AllByRecursion as All}
+use Rattle.std.specs.List.{AllByRecursion}
 use Rattle.std.proofs.ByRecursion.{All-weaker}
 use Rattle.std.proofs.lemmas.List.{length-set}
 use Rattle.std.proofs.lemmas.Bool.{cases_Bool, cases_eq, cases_lt, both_ways, or_cases, or_left, or_right}
@@ -36,7 +36,7 @@ module _ (s : Sheet) (k : ℕ) (new : List ℕ) where
 
   chart_named : NamedChart s → NamedChart (with_amount s k new)
   chart_named h = record {
-    states = All-weaker (All (NamedAction s)) (All (NamedAction (with_amount s k new))) (λ actions. All-weaker (NamedAction s) (NamedAction (with_amount s k new)) action_named actions) s.states h.states;
+    states = All-weaker (AllByRecursion (NamedAction s)) (AllByRecursion (NamedAction (with_amount s k new))) (λ actions. All-weaker (NamedAction s) (NamedAction (with_amount s k new)) action_named actions) s.states h.states;
     transitions = All-weaker (NamedTransition s) (NamedTransition (with_amount s k new)) (λ t p. record { source = p.source; destination = p.destination; event = p.event }) s.transitions h.transitions;
     entries = h.entries;
   }

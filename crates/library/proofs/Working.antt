@@ -1,6 +1,6 @@
 -- What the crates beneath promise of a card and of names, in the library's words. Assumes nothing.
 use Rattle.std.proofs.Common.{◌≡◌, ℕ, zero, suc, ◌+◌, ◌*◌, ◌<◌, ◌≤◌, List, [], ◌∷◌, get_or, take, drop, Err, sym, refl, ap, ◌∙◌, subst, inl, inr}
-use Rattle.std.specs.List.{AllByRecursion as All}
+use Rattle.std.specs.List.{AllByRecursion}
 use Rattle.std.proofs.ByRecursion.{All-get_or, All-take}
 use Rattle.costs.specs.Lists.{Sized}
 use Rattle.costs.specs.declared.entry.Entry.{Entry}
@@ -69,7 +69,7 @@ pub chart_passes : (c : Checked) → NamedChart (says c) → (e : ChartRefusal) 
 chart_passes c named e h = refuted h.2
   where
     refuted : UnnamedAt c (place e) → ⊥
-    refuted (in_state k first at) = first.fails (All-take (All (NamedAction (says c))) (k + 1) (says c).states named.states)
+    refuted (in_state k first at) = first.fails (All-take (AllByRecursion (NamedAction (says c))) (k + 1) (says c).states named.states)
     refuted (in_transition k states first at) = first.fails (All-take (NamedTransition (says c)) (k + 1) (says c).transitions named.transitions)
     refuted (in_entry k states transitions first at) = first.fails (All-take (NamedEntry (says c)) (k + 1) (says c).entries named.entries)
 

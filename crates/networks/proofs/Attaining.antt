@@ -1,6 +1,6 @@
 -- Where the reducer only selects, each entry of a network's lists is that of a run. Assumes nothing.
 use Rattle.std.proofs.Common.{◌≡◌, ℕ, zero, suc, ◌+◌, ◌*◌, ◌/◌, ◌%◌, ◌<◌, ◌≤◌, ◌⊎◌, List, [], ◌∷◌, ◌++◌, sym, refl, ap, ◌∙◌, subst, inl, inr, ⊎_elim, arith}
-use Rattle.std.specs.List.{AllByRecursion as All}
+use Rattle.std.specs.List.{AllByRecursion}
 use Rattle.std.proofs.ByRecursion.{All-weaker, All-append}
 use Rattle.std.proofs.lemmas.List.{append-nil}
 use Rattle.std.proofs.lemmas.Bool.{cases_lt}
@@ -121,7 +121,7 @@ module _ {M : Type 0} {ops : Amounts M} {gives : List (Entry M) → List (Entry 
   abbrev Realizes : End → Type 0
   Realizes t = (e : Entry M) → Among e (target_list ops T t) → (rest : List End) (x : Entry M) → Realized rest x → Realized (t ∷ rest) ((entry_ops ops).plus e x)
 
-  realize_picks : (ts : List End) → All Realizes ts → (y : Entry M) → Picks ops T ts y → (rest : List End) (x : Entry M) → Realized rest x → Realized (ts ++ rest) ((entry_ops ops).plus y x)
+  realize_picks : (ts : List End) → AllByRecursion Realizes ts → (y : Entry M) → Picks ops T ts y → (rest : List End) (x : Entry M) → Realized rest x → Realized (ts ++ rest) ((entry_ops ops).plus y x)
   realize_picks [] all y nothing rest x r = subst (Realized rest) (sym (ap (λ v. (entry_ops ops).plus v x) nothing ∙ zero_plus (entry_lawful laws) x)) r
   realize_picks (t ∷ ts) all y (e, z, (m, (h, is))) rest x r =
       subst (Realized (t ∷ (ts ++ rest))) (sym ((entry_lawful laws).associative e z x) ∙ ap (λ v. (entry_ops ops).plus v x) is)
@@ -138,7 +138,7 @@ module _ {M : Type 0} {ops : Amounts M} {gives : List (Entry M) → List (Entry 
         is = subst (λ a. IsRun ((entry_ops ops).plus start x) a (both_sent (once_sent p) r.sent)) (zero_plus laws r.amount) (is_run_both ops start x ops.zero r.amount (once_sent p) r.sent (is_run_once ops p within) r.is);
       })
 
-  same_arrivals : (i f : ℕ) → Place net i f → (c : Entry M) → Among c (card i f) → (ns : Sent) → ((o : ℕ) → o < 8 → SameCount (count c o) (ns o)) → (os : List ℕ) → All (λ o. o < 8) os → arrivals net.connections i (count c) os ≡ arrivals net.connections i ns os
+  same_arrivals : (i f : ℕ) → Place net i f → (c : Entry M) → Among c (card i f) → (ns : Sent) → ((o : ℕ) → o < 8 → SameCount (count c o) (ns o)) → (os : List ℕ) → AllByRecursion (λ o. o < 8) os → arrivals net.connections i (count c) os ≡ arrivals net.connections i ns os
   same_arrivals i f place c m ns same [] low = refl
   same_arrivals i f place c m ns same (o ∷ os) low =
       ap (λ l. l ++ arrivals net.connections i (count c) os) (repeated_same (targets net.connections (Inside i o)) (count c o) (ns o) (λ t led.
@@ -148,17 +148,17 @@ module _ {M : Type 0} {ops : Amounts M} {gives : List (Entry M) → List (Entry 
       (same o low.0)))
       ∙ ap (λ l. repeated (ns o) (targets net.connections (Inside i o)) ++ l) (same_arrivals i f place c m ns same os low.1)
 
-  counted_arrivals : (P : End → Type 0) (i : ℕ) (ns : Sent) → ((o : ℕ) → 0 < ns o → All P (targets net.connections (Inside i o))) → (os : List ℕ) → All P (arrivals net.connections i ns os)
+  counted_arrivals : (P : End → Type 0) (i : ℕ) (ns : Sent) → ((o : ℕ) → 0 < ns o → AllByRecursion P (targets net.connections (Inside i o))) → (os : List ℕ) → AllByRecursion P (arrivals net.connections i ns os)
   counted_arrivals P i ns h [] = tt
   counted_arrivals P i ns h (o ∷ os) =
       All-append P (repeated (ns o) (targets net.connections (Inside i o))) (arrivals net.connections i ns os)
-      (⊎_elim (λ pos. all_repeated P (ns o) (targets net.connections (Inside i o)) (h o pos)) (λ zero'. subst (λ n. All P (repeated n (targets net.connections (Inside i o)))) (le_zero zero') tt) (cases_lt 0 (ns o)))
+      (⊎_elim (λ pos. all_repeated P (ns o) (targets net.connections (Inside i o)) (h o pos)) (λ zero'. subst (λ n. AllByRecursion P (repeated n (targets net.connections (Inside i o)))) (le_zero zero') tt) (cases_lt 0 (ns o)))
       (counted_arrivals P i ns h os)
     where
       le_zero : {n : ℕ} → n ≤ 0 → 0 ≡ n
       le_zero h = omega arith
 
-  realize_inside : (i f : ℕ) → Place net i f → ((c : Entry M) → Among c (card i f) → (o : ℕ) → 0 < count c o → All Realizes (targets net.connections (Inside i o))) → Realizes (Inside i f)
+  realize_inside : (i f : ℕ) → Place net i f → ((c : Entry M) → Among c (card i f) → (o : ℕ) → 0 < count c o → AllByRecursion Realizes (targets net.connections (Inside i o))) → Realizes (Inside i f)
   realize_inside i f place before z m rest x r =
       ⊎_elim
       (λ nothing. absurd nothing)

@@ -1,6 +1,6 @@
 -- The lists of a network cover its runs, for every measure and every reducer. Assumes nothing.
 use Rattle.std.proofs.Common.{◌≡◌, ℕ, zero, suc, ◌+◌, ◌*◌, ◌<◌, ◌≤◌, true, List, [], ◌∷◌, refl, ap, ◌∙◌, subst, inl, ⊎_elim, arith}
-use Rattle.std.specs.List.{AllByRecursion as All}
+use Rattle.std.specs.List.{AllByRecursion}
 use Rattle.std.proofs.ByRecursion.{All-weaker, All-append}
 use Rattle.costs.specs.Amounts.{Amounts, Lawful}
 use Rattle.costs.specs.Entries.{amount_alone, one_sent, entry_ops, count}
@@ -19,11 +19,11 @@ use Rattle.networks.specs.Promises.{Covers}
 use Rattle.networks.proofs.Places.{all_targets, named_targets, source_targets, place_node, of_place}
 use Rattle.networks.proofs.Joining.{Picks, picks_append, entries_over, source_over}
 
-pub all_repeated : {X : Type 0} (P : X → Type 0) (n : ℕ) (xs : List X) → All P xs → All P (repeated n xs)
+pub all_repeated : {X : Type 0} (P : X → Type 0) (n : ℕ) (xs : List X) → AllByRecursion P xs → AllByRecursion P (repeated n xs)
 all_repeated P zero xs all = tt
 all_repeated P (suc n) xs all = All-append P xs (repeated n xs) all (all_repeated P n xs all)
 
-all_arrivals : (P : End → Type 0) (cs : List Connection) (i : ℕ) (ns : Sent) → All (λ c. P c.target) cs → (os : List ℕ) → All P (arrivals cs i ns os)
+all_arrivals : (P : End → Type 0) (cs : List Connection) (i : ℕ) (ns : Sent) → AllByRecursion (λ c. P c.target) cs → (os : List ℕ) → AllByRecursion P (arrivals cs i ns os)
 all_arrivals P cs i ns all [] = tt
 all_arrivals P cs i ns all (o ∷ os) =
     All-append P (repeated (ns o) (targets cs (Inside i o))) (arrivals cs i ns os) (all_repeated P (ns o) (targets cs (Inside i o)) (all_targets P cs (Inside i o) all)) (all_arrivals P cs i ns all os)
@@ -40,7 +40,7 @@ module _ {M : Type 0} {ops : Amounts M} {gives : List (Entry M) → List (Entry 
   target_sized (Outside p) h = (omega arith, omega arith)
   target_sized (Inside i f) h = (formed i f h).sized
 
-  sized_targets : (s : End) → All (λ t. Sized (target_list ops T t)) (targets net.connections s)
+  sized_targets : (s : End) → AllByRecursion (λ t. Sized (target_list ops T t)) (targets net.connections s)
   sized_targets s = All-weaker _ _ target_sized (targets net.connections s) (source_targets net named s)
 
   -- below 255 at a connected output, an entry's count is not below a run's in earnest
@@ -52,7 +52,7 @@ module _ {M : Type 0} {ops : Amounts M} {gives : List (Entry M) → List (Entry 
       (counts o l)
 
   -- every agenda is covered by a pick
-  covered : {fs : List End} {a : M} {ns : Sent} → Served ops net.connections Runs fs a ns → All (Target net) fs → (x : Entry M) × (Picks ops T fs x × CoversRun ops x a ns)
+  covered : {fs : List End} {a : M} {ns : Sent} → Served ops net.connections Runs fs a ns → AllByRecursion (Target net) fs → (x : Entry M) × (Picks ops T fs x × CoversRun ops x a ns)
   covered nothing_left all = ((entry_ops ops).zero, (refl, covers_run_zero laws (entry_ops ops).zero))
   covered (arrives_outside p rest a ns run) all =
       let r = covered run all.1 in

@@ -1,6 +1,6 @@
 -- Where the reducer's relation is a function's, forming comes to what the plain function says. Assumes nothing.
 use Rattle.std.proofs.Common.{◌≡◌, ℕ, zero, suc, ◌≤◌, leb, List, [], ◌∷◌, ◌++◌, length, sym, ap, ◌∙◌, inl, inr, arith}
-use Rattle.std.specs.List.{AllByRecursion as All}
+use Rattle.std.specs.List.{AllByRecursion}
 use Rattle.std.proofs.lemmas.Bool.{cond-true, cond-false, le-leb, lt-leb}
 use Rattle.costs.specs.Amounts.{Amounts}
 use Rattle.costs.specs.Entries.{amount_alone, entry_ops, count}
@@ -42,14 +42,14 @@ module _ {M : Type 0} (ops : Amounts M) (gives : List (Entry M) → List (Entry 
     abbrev pub Agree : End → Type 0
     Agree t = target_list ops T t ≡ target_list ops V t
 
-    pub follow_determined : (ts : List End) → All Agree ts → (xs : List (Entry M)) (o : Formation (Entry M)) → Follows ops gives V ts xs o → follow ops f T ts xs ≡ o
+    pub follow_determined : (ts : List End) → AllByRecursion Agree ts → (xs : List (Entry M)) (o : Formation (Entry M)) → Follows ops gives V ts xs o → follow ops f T ts xs ≡ o
     follow_determined [] all xs o h = is_determined xs o h
     follow_determined (t ∷ ts) all xs o h =
         then_determined (Joins ops gives xs (target_list ops V t)) (Follows ops gives V ts) (reduced ops f (sums (entry_ops ops) xs (target_list ops T t))) (follow ops f T ts)
         (λ p j. ap (λ l. reduced ops f (sums (entry_ops ops) xs l)) all.0 ∙ reduced_determined (sums (entry_ops ops) xs (target_list ops V t)) p j)
         (follow_determined ts all.1) o h
 
-    send_determined : (ts : List End) (n : ℕ) → (1 ≤ n → All Agree ts) → (xs : List (Entry M)) (o : Formation (Entry M)) → Sends ops gives V ts n xs o → send ops f T ts n xs ≡ o
+    send_determined : (ts : List End) (n : ℕ) → (1 ≤ n → AllByRecursion Agree ts) → (xs : List (Entry M)) (o : Formation (Entry M)) → Sends ops gives V ts n xs o → send ops f T ts n xs ≡ o
     send_determined [] n all xs o h = is_determined xs o h
     send_determined (t ∷ ts) zero all xs o h = is_determined xs o h
     send_determined (t ∷ ts) (suc n) all xs o h =
@@ -57,13 +57,13 @@ module _ {M : Type 0} (ops : Amounts M) (gives : List (Entry M) → List (Entry 
         (follow_determined (t ∷ ts) (all (omega arith)) ((entry_ops ops).zero ∷ [])) (λ ys. times_determined (suc n) ys xs) o h
 
     module _ (cs : List Connection) (i : ℕ) where
-      outputs_determined : (e : Entry M) → ((o : ℕ) → 1 ≤ count e o → All Agree (targets cs (Inside i o))) → (os : List ℕ) (xs : List (Entry M)) (q : Formation (Entry M)) → SendsAll ops gives V cs i e os xs q → send_all ops f T cs i e os xs ≡ q
+      outputs_determined : (e : Entry M) → ((o : ℕ) → 1 ≤ count e o → AllByRecursion Agree (targets cs (Inside i o))) → (os : List ℕ) (xs : List (Entry M)) (q : Formation (Entry M)) → SendsAll ops gives V cs i e os xs q → send_all ops f T cs i e os xs ≡ q
       outputs_determined e all [] xs q h = is_determined xs q h
       outputs_determined e all (o ∷ os) xs q h =
           then_determined (Sends ops gives V (targets cs (Inside i o)) (count e o) xs) (SendsAll ops gives V cs i e os) (send ops f T (targets cs (Inside i o)) (count e o) xs) (send_all ops f T cs i e os)
           (send_determined (targets cs (Inside i o)) (count e o) (all o) xs) (outputs_determined e all os) q h
 
-      pub entries_determined : (es : List (Entry M)) → All (λ e. (o : ℕ) → 1 ≤ count e o → All Agree (targets cs (Inside i o))) es → (xs : List (Entry M)) (q : Formation (Entry M)) → Entries ops gives V cs i es xs q → entries ops f T cs i es xs ≡ q
+      pub entries_determined : (es : List (Entry M)) → AllByRecursion (λ e. (o : ℕ) → 1 ≤ count e o → AllByRecursion Agree (targets cs (Inside i o))) es → (xs : List (Entry M)) (q : Formation (Entry M)) → Entries ops gives V cs i es xs q → entries ops f T cs i es xs ≡ q
       entries_determined [] all xs q h = reduced_determined xs q h
       entries_determined (e ∷ es) all xs q h =
           then_determined (EntryList ops gives V cs i e) (λ ys. Entries ops gives V cs i es (xs ++ ys)) (send_all ops f T cs i e outputs (amount_alone e.amount ∷ [])) (λ ys. entries ops f T cs i es (xs ++ ys))

@@ -1,6 +1,6 @@
 -- What the calls above promise, from what those below promise. Assumes nothing.
 use Rattle.std.proofs.Common.{◌≡◌, ℕ, ◌+◌, ◌*◌, ◌/◌, ◌%◌, ◌<◌, ◌≤◌, List, get_or, take, drop, Ok, Err, Result, sym, ap, ◌∙◌, arith, MatchResult}
-use Rattle.std.specs.List.{ContainsAt as Has, AllByRecursion as All}
+use Rattle.std.specs.List.{ContainsAt as Has, AllByRecursion}
 use Rattle.std.proofs.ByRecursion.{All-weaker}
 use Rattle.std.proofs.lemmas.List.{get_or-take, drop-take, take-take}
 use Rattle.costs.specs.Amounts.{Amounts}
@@ -44,7 +44,7 @@ module _ {M : Type 0} (ops : Amounts M) (gives : List (Entry M) → List (Entry 
     places = λ i f place. at_place net given.fit.narrow i f place (Formed ops gives net card (table_at rows lens)) (formed (8 * i + f) (complete.all (8 * i + f) (place_node net given.fit.narrow i f place)));
   }
 
-  pub all_filled : Worked ops gives net card (table_at rows lens) → (e : ℕ) → All (Filled lens) (targets net.connections (Outside e))
+  pub all_filled : Worked ops gives net card (table_at rows lens) → (e : ℕ) → AllByRecursion (Filled lens) (targets net.connections (Outside e))
   all_filled worked e = All-weaker _ _ one (targets net.connections (Outside e)) (source_targets net given.named (Outside e))
     where
       one : (t : End) → Target net t → Filled lens t

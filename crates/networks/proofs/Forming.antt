@@ -1,6 +1,6 @@
 -- The table of lists, one place more at a time. Assumes nothing.
 use Rattle.std.proofs.Common.{◌≡◌, ℕ, zero, suc, ◌+◌, ◌*◌, ◌/◌, ◌%◌, ◌<◌, ◌≤◌, List, [], ◌∷◌, ◌++◌, sym, refl, ap, subst, inl, inr, ⊎_elim, arith}
-use Rattle.std.specs.List.{ContainsAt as Has, AllByRecursion as All}
+use Rattle.std.specs.List.{ContainsAt as Has, AllByRecursion}
 use Rattle.std.proofs.ByRecursion.{has_push_cases}
 use Rattle.costs.specs.Amounts.{Amounts}
 use Rattle.costs.specs.Entries.{amount_alone, entry_ops, count}
@@ -31,13 +31,13 @@ module _ {M : Type 0} (ops : Amounts M) (gives : List (Entry M) → List (Entry 
   abbrev pub Alike : End → Type 0
   Alike t = target_list ops V t ≡ target_list ops T t
 
-  follows_same : (ts : List End) → All Alike ts → (xs : List (Entry M)) (o : Formation (Entry M)) → Follows ops gives T ts xs o → Follows ops gives V ts xs o
+  follows_same : (ts : List End) → AllByRecursion Alike ts → (xs : List (Entry M)) (o : Formation (Entry M)) → Follows ops gives T ts xs o → Follows ops gives V ts xs o
   follows_same [] all xs o h = h
   follows_same (t ∷ ts) all xs o h =
       then_same (Joins ops gives xs (target_list ops T t)) (Joins ops gives xs (target_list ops V t)) (Follows ops gives T ts) (Follows ops gives V ts)
       (λ p j. subst (λ l. Joins ops gives xs l p) (sym all.0) j) (λ ys p f. follows_same ts all.1 ys p f) o h
 
-  sends_same : (ts : List End) (n : ℕ) → (1 ≤ n → All Alike ts) → (xs : List (Entry M)) (o : Formation (Entry M)) → Sends ops gives T ts n xs o → Sends ops gives V ts n xs o
+  sends_same : (ts : List End) (n : ℕ) → (1 ≤ n → AllByRecursion Alike ts) → (xs : List (Entry M)) (o : Formation (Entry M)) → Sends ops gives T ts n xs o → Sends ops gives V ts n xs o
   sends_same [] n all xs o h = h
   sends_same (t ∷ ts) zero all xs o h = h
   sends_same (t ∷ ts) (suc n) all xs o h =
@@ -45,13 +45,13 @@ module _ {M : Type 0} (ops : Amounts M) (gives : List (Entry M) → List (Entry 
       (λ p s. follows_same (t ∷ ts) (all (omega arith)) ((entry_ops ops).zero ∷ []) p s) (λ ys p q. q) o h
 
   module _ (cs : List Connection) (i : ℕ) where
-    outputs_same : (e : Entry M) → ((o : ℕ) → 1 ≤ count e o → All Alike (targets cs (Inside i o))) → (os : List ℕ) (xs : List (Entry M)) (q : Formation (Entry M)) → SendsAll ops gives T cs i e os xs q → SendsAll ops gives V cs i e os xs q
+    outputs_same : (e : Entry M) → ((o : ℕ) → 1 ≤ count e o → AllByRecursion Alike (targets cs (Inside i o))) → (os : List ℕ) (xs : List (Entry M)) (q : Formation (Entry M)) → SendsAll ops gives T cs i e os xs q → SendsAll ops gives V cs i e os xs q
     outputs_same e all [] xs q h = h
     outputs_same e all (o ∷ os) xs q h =
         then_same (Sends ops gives T (targets cs (Inside i o)) (count e o) xs) (Sends ops gives V (targets cs (Inside i o)) (count e o) xs) (SendsAll ops gives T cs i e os) (SendsAll ops gives V cs i e os)
         (λ p s. sends_same (targets cs (Inside i o)) (count e o) (all o) xs p s) (λ ys p s. outputs_same e all os ys p s) q h
 
-    pub entries_same : (es : List (Entry M)) → All (λ e. (o : ℕ) → 1 ≤ count e o → All Alike (targets cs (Inside i o))) es → (xs : List (Entry M)) (q : Formation (Entry M)) → Entries ops gives T cs i es xs q → Entries ops gives V cs i es xs q
+    pub entries_same : (es : List (Entry M)) → AllByRecursion (λ e. (o : ℕ) → 1 ≤ count e o → AllByRecursion Alike (targets cs (Inside i o))) es → (xs : List (Entry M)) (q : Formation (Entry M)) → Entries ops gives T cs i es xs q → Entries ops gives V cs i es xs q
     entries_same [] all xs q h = h
     entries_same (e ∷ es) all xs q h =
         then_same (EntryList ops gives T cs i e) (EntryList ops gives V cs i e) (λ ys. Entries ops gives T cs i es (xs ++ ys)) (λ ys. Entries ops gives V cs i es (xs ++ ys))
@@ -73,7 +73,7 @@ module _ {M : Type 0} (net : Network) (few : net.outputs ≤ 8) (card : ℕ → 
         connected = subst (λ t. Among t (targets net.connections (Inside (n / 8) o))) (sym (place_end net narrow j h target)) among;
       })
 
-  pub reach : (n : ℕ) (P : End → Type 0) → ((p : ℕ) → p < 8 → P (Outside p)) → ((j h : ℕ) → Place net j h → Leads net card n (8 * j + h) → P (Inside j h)) → All (λ e. (o : ℕ) → 1 ≤ count e o → All P (targets net.connections (Inside (n / 8) o))) (card (n / 8) (n % 8))
+  pub reach : (n : ℕ) (P : End → Type 0) → ((p : ℕ) → p < 8 → P (Outside p)) → ((j h : ℕ) → Place net j h → Leads net card n (8 * j + h) → P (Inside j h)) → AllByRecursion (λ e. (o : ℕ) → 1 ≤ count e o → AllByRecursion P (targets net.connections (Inside (n / 8) o))) (card (n / 8) (n % 8))
   reach n P outside inside =
       all_among _ (card (n / 8) (n % 8)) (λ e listed o counted. all_among P (targets net.connections (Inside (n / 8) o)) (reach_one n P outside inside e listed o counted))
 

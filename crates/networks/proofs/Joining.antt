@@ -1,6 +1,6 @@
 -- Lists joined and reduced cover the sums of what they are made of, for every measure and reducer. Assumes nothing.
 use Rattle.std.proofs.Common.{◌≡◌, ℕ, zero, suc, ◌+◌, ◌*◌, ◌<◌, ◌≤◌, List, [], ◌∷◌, ◌++◌, length, sym, refl, ap, ◌∙◌, subst, inl, inr, arith}
-use Rattle.std.specs.List.{AllByRecursion as All}
+use Rattle.std.specs.List.{AllByRecursion}
 use Rattle.std.proofs.lemmas.List.{length-append}
 use Rattle.costs.specs.Amounts.{Amounts, Lawful}
 use Rattle.costs.specs.Entries.{amount_alone, entry_ops, count}
@@ -43,14 +43,14 @@ module _ {M : Type 0} {ops : Amounts M} (laws : Lawful ops) where
         ),
       )
 
-  pub picks_some : (T : ℕ → ℕ → List (Entry M)) (ts : List End) → All (λ t. Sized (target_list ops T t)) ts → (x : Entry M) × Picks ops T ts x
+  pub picks_some : (T : ℕ → ℕ → List (Entry M)) (ts : List End) → AllByRecursion (λ t. Sized (target_list ops T t)) ts → (x : Entry M) × Picks ops T ts x
   picks_some T [] all = ((entry_ops ops).zero, refl)
   picks_some T (t ∷ ts) all =
       let e = one_among (target_list ops T t) all.0.0 in
       let r = picks_some T ts all.1 in
       ((entry_ops ops).plus e.0 r.0, (e.0, r.0, (e.1, (r.1, refl))))
 
-pub low_outputs : All (λ o. o < 8) outputs
+pub low_outputs : AllByRecursion (λ o. o < 8) outputs
 unfolding outputs
 low_outputs = (omega arith, (omega arith, (omega arith, (omega arith, (omega arith, (omega arith, (omega arith, (omega arith, tt))))))))
 
@@ -60,7 +60,7 @@ module _ {M : Type 0} {ops : Amounts M} {gives : List (Entry M) → List (Entry 
       covered_reduced laws sound (sums (entry_ops ops) xs ys) zs ((entry_ops ops).plus w v) (omega (arith, length_sums (entry_ops ops) xs ys, at_most (length xs) (length ys) sx sy)) g
       (covered_sums (entry_lawful laws) xs ys w v over over')
 
-  pub follows_over : (T : ℕ → ℕ → List (Entry M)) (ts : List End) (xs zs : List (Entry M)) (w y : Entry M) → All (λ t. Sized (target_list ops T t)) ts → length xs ≤ 16
+  pub follows_over : (T : ℕ → ℕ → List (Entry M)) (ts : List End) (xs zs : List (Entry M)) (w y : Entry M) → AllByRecursion (λ t. Sized (target_list ops T t)) ts → length xs ≤ 16
       → Follows ops gives T ts xs (list zs) → CoveredBy (entry_ops ops) xs w → Picks ops T ts y → CoveredBy (entry_ops ops) zs ((entry_ops ops).plus w y)
   follows_over T [] xs zs w y all sx is o none = subst (λ l. CoveredBy (entry_ops ops) l ((entry_ops ops).plus w y)) (sym is) (subst (CoveredBy (entry_ops ops) xs) (sym (ap ((entry_ops ops).plus w) none ∙ (entry_lawful laws).neutral w)) o)
   follows_over T (t ∷ ts) xs zs w y all sx (ys, (joins, rest)) o (e, z, (m, (h, is))) =
@@ -72,12 +72,12 @@ module _ {M : Type 0} {ops : Amounts M} {gives : List (Entry M) → List (Entry 
   follows_short T [] xs zs sx is = subst (λ l. length l ≤ 16) (sym is) sx
   follows_short T (t ∷ ts) xs zs sx (ys, (joins, rest)) = follows_short T ts ys zs joins.1 rest
 
-  pub source_over : (T : ℕ → ℕ → List (Entry M)) (ts : List End) (zs : List (Entry M)) (y : Entry M) → All (λ t. Sized (target_list ops T t)) ts → SourceList ops gives T ts (list zs) → Picks ops T ts y → CoveredBy (entry_ops ops) zs y
+  pub source_over : (T : ℕ → ℕ → List (Entry M)) (ts : List End) (zs : List (Entry M)) (y : Entry M) → AllByRecursion (λ t. Sized (target_list ops T t)) ts → SourceList ops gives T ts (list zs) → Picks ops T ts y → CoveredBy (entry_ops ops) zs y
   source_over T ts zs y all is h =
       subst (CoveredBy (entry_ops ops) zs) (zero_plus (entry_lawful laws) y)
       (follows_over T ts ((entry_ops ops).zero ∷ []) zs (entry_ops ops).zero y all (omega arith) is (covered_itself (entry_lawful laws) (entry_ops ops).zero ((entry_ops ops).zero ∷ []) (inl refl)) h)
 
-  pub source_sized : (T : ℕ → ℕ → List (Entry M)) (ts : List End) (zs : List (Entry M)) → All (λ t. Sized (target_list ops T t)) ts → SourceList ops gives T ts (list zs) → Sized zs
+  pub source_sized : (T : ℕ → ℕ → List (Entry M)) (ts : List End) (zs : List (Entry M)) → AllByRecursion (λ t. Sized (target_list ops T t)) ts → SourceList ops gives T ts (list zs) → Sized zs
   source_sized T ts zs all is =
       let p = picks_some laws T ts all in
       (covered_some (entry_lawful laws) zs p.0 (source_over T ts zs p.0 all is p.1), follows_short T ts ((entry_ops ops).zero ∷ []) zs (omega arith) is)
@@ -111,7 +111,7 @@ module _ {M : Type 0} {ops : Amounts M} {gives : List (Entry M) → List (Entry 
   le_zero : (m : ℕ) → m ≤ 0 → m ≡ 0
   le_zero m h = omega arith
 
-  pub sends_over : (T : ℕ → ℕ → List (Entry M)) (ts : List End) (n m : ℕ) (xs zs : List (Entry M)) (w y : Entry M) → All (λ t. Sized (target_list ops T t)) ts → ((t : End) → Among t ts → m ≤ n) → length xs ≤ 16
+  pub sends_over : (T : ℕ → ℕ → List (Entry M)) (ts : List End) (n m : ℕ) (xs zs : List (Entry M)) (w y : Entry M) → AllByRecursion (λ t. Sized (target_list ops T t)) ts → ((t : End) → Among t ts → m ≤ n) → length xs ≤ 16
       → Sends ops gives T ts n xs (list zs) → CoveredBy (entry_ops ops) xs w → Picks ops T (repeated m ts) y → CoveredBy (entry_ops ops) zs ((entry_ops ops).plus w y)
   sends_over T [] n m xs zs w y all le sx is o h = over_none T (repeated m []) xs zs w y (repeated_none m) is o h
   sends_over T (t ∷ ts) zero m xs zs w y all le sx is o h =
@@ -124,8 +124,8 @@ module _ {M : Type 0} {ops : Amounts M} {gives : List (Entry M) → List (Entry 
   sends_short T (t ∷ ts) zero xs zs sx is = subst (λ l. length l ≤ 16) (sym is) sx
   sends_short T (t ∷ ts) (suc n) xs zs sx (ys, (source, rest)) = times_short (suc n) ys xs zs sx rest
 
-  module _ (T : ℕ → ℕ → List (Entry M)) (cs : List Connection) (i : ℕ) (sized : (o : ℕ) → All (λ t. Sized (target_list ops T t)) (targets cs (Inside i o))) where
-    pub sends_all_over : (e : Entry M) (ns : Sent) → ((o : ℕ) → o < 8 → (t : End) → Among t (targets cs (Inside i o)) → ns o ≤ count e o) → (os : List ℕ) → All (λ o. o < 8) os → (xs zs : List (Entry M)) (w y : Entry M) → length xs ≤ 16
+  module _ (T : ℕ → ℕ → List (Entry M)) (cs : List Connection) (i : ℕ) (sized : (o : ℕ) → AllByRecursion (λ t. Sized (target_list ops T t)) (targets cs (Inside i o))) where
+    pub sends_all_over : (e : Entry M) (ns : Sent) → ((o : ℕ) → o < 8 → (t : End) → Among t (targets cs (Inside i o)) → ns o ≤ count e o) → (os : List ℕ) → AllByRecursion (λ o. o < 8) os → (xs zs : List (Entry M)) (w y : Entry M) → length xs ≤ 16
         → SendsAll ops gives T cs i e os xs (list zs) → CoveredBy (entry_ops ops) xs w → Picks ops T (arrivals cs i ns os) y → CoveredBy (entry_ops ops) zs ((entry_ops ops).plus w y)
     sends_all_over e ns le [] low xs zs w y sx is o h = over_none T [] xs zs w y refl is o h
     sends_all_over e ns le (k ∷ os) low xs zs w y sx (ys, (sends, rest)) o h =

@@ -1,6 +1,6 @@
 -- Places, their numbers, and the targets of sources. Assumes nothing.
 use Rattle.std.proofs.Common.{◌≡◌, ℕ, ◌+◌, ◌*◌, ◌/◌, ◌%◌, ◌<◌, ◌≤◌, List, [], ◌∷◌, sym, ap, ◌∙◌, subst, arith}
-use Rattle.std.specs.List.{AllByRecursion as All}
+use Rattle.std.specs.List.{AllByRecursion}
 use Rattle.std.proofs.ByRecursion.{All-weaker}
 use Rattle.std.proofs.lemmas.Bool.{cond_both}
 use Rattle.sheets.specs.declared.words.Connection.{Connection}
@@ -8,21 +8,21 @@ use Rattle.sheets.specs.declared.words.End.{End}
 use Rattle.sheets.specs.declared.words.End.TheVariants.{Inside}
 use Rattle.networks.specs.Networks.{same, targets, Network, Place, Target, Named, Node}
 
-pub all_targets : (P : End → Type 0) (cs : List Connection) (s : End) → All (λ c. P c.target) cs → All P (targets cs s)
+pub all_targets : (P : End → Type 0) (cs : List Connection) (s : End) → AllByRecursion (λ c. P c.target) cs → AllByRecursion P (targets cs s)
 all_targets P [] s all = tt
 all_targets P (c ∷ cs) s all =
     let rest = all_targets P cs s all.1 in
-    cond_both (same c.source s) (c.target ∷ targets cs s) (targets cs s) (All P) (λ _. (all.0, rest)) (λ _. rest)
+    cond_both (same c.source s) (c.target ∷ targets cs s) (targets cs s) (AllByRecursion P) (λ _. (all.0, rest)) (λ _. rest)
 
 -- a number of a place is the place's
 pub whole : (d : ℕ) → 8 * (d / 8) + d % 8 ≡ d
 whole d = omega arith
 
 module _ (net : Network) (named : Named net) where
-  pub named_targets : All (λ c. Target net c.target) net.connections
+  pub named_targets : AllByRecursion (λ c. Target net c.target) net.connections
   named_targets = All-weaker _ _ (λ c h. h.target) net.connections named
 
-  pub source_targets : (s : End) → All (Target net) (targets net.connections s)
+  pub source_targets : (s : End) → AllByRecursion (Target net) (targets net.connections s)
   source_targets s = all_targets (Target net) net.connections s named_targets
 
 module _ (net : Network) (narrow : (i : ℕ) → i < net.instances → (net.faces i).inputs ≤ 8) where

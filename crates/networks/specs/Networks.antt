@@ -2,7 +2,7 @@
 -- Glossary. Instance i is the i-th block inside. Place (i, f) is event f of instance i; its number is 8 i + f.
 -- A source is an event from outside or an output of an instance; a target is an output to outside or a place.
 use Rattle.std.specs.Prelude.{◌≡◌, ℕ, ◌/◌, ◌%◌, ◌<◌, ◌≤◌, Bool, false, cond, ◌&&◌, List, [], ◌∷◌, length, ◌==◌}
-use Rattle.std.specs.List.{AllByRecursion as All}
+use Rattle.std.specs.List.{AllByRecursion}
 use Rattle.costs.specs.Entries.{count}
 use Rattle.costs.specs.Lists.{Among, Sized}
 use Rattle.costs.specs.declared.entry.Entry.{Entry}
@@ -78,7 +78,7 @@ pub record NamedConnection (net : Network) (c : Connection) : Type 0 where
 
 -- every connection names something
 abbrev pub Named : Network → Type 0
-Named net = All (NamedConnection net) net.connections
+Named net = AllByRecursion (NamedConnection net) net.connections
 
 -- the number n is that of an input place
 abbrev pub Node : Network → ℕ → Type 0

@@ -1,6 +1,6 @@
 -- Refusals of a composite by number, level and place, and when each is given. Assumes nothing.
 use Rattle.std.specs.Prelude.{◌≡◌, ℕ, ◌+◌, ◌<◌, ◌⊎◌, List, length, take, Some, slice_index_or}
-use Rattle.std.specs.List.{slice_get, AllByRecursion as All}
+use Rattle.std.specs.List.{slice_get, AllByRecursion}
 use Rattle.costs.specs.Amounts.{Amounts}
 use Rattle.costs.specs.Lists.{Among}
 use Rattle.costs.specs.declared.entry.Entry.{Entry}
@@ -48,7 +48,7 @@ nth_connection cs k = slice_index_or cs k no_connection
 -- connection k is the first with an end that names nothing
 pub record FirstUnnamed (net : Network) (k : ℕ) : Type 0 where
   pub within : k < length net.connections
-  pub before : All (NamedConnection net) (take k net.connections)
+  pub before : AllByRecursion (NamedConnection net) (take k net.connections)
   pub wrong : NamedConnection net (nth_connection net.connections k) → ⊥
 
 -- connection k stands among those before it

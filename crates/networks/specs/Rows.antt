@@ -1,6 +1,6 @@
 -- Lists in lent rows, and what the card's rows hold. Assumes nothing.
 use Rattle.std.specs.Prelude.{◌≡◌, ℕ, ◌+◌, ◌*◌, ◌<◌, ◌≤◌, Bool, true, false, List, [], ◌∷◌, length, take, drop, Some, None, Option, ◌≢◌, slice_index, slice_index_or}
-use Rattle.std.specs.List.{AllByRecursion as All}
+use Rattle.std.specs.List.{AllByRecursion}
 use Rattle.costs.specs.Amounts.{Amounts}
 use Rattle.costs.specs.Entries.{count}
 use Rattle.costs.specs.Lists.{Sized}
@@ -38,7 +38,7 @@ Filled lens (Inside i f) = 1 ≤ slice_index lens (8 * i + f)
 
 -- the targets of each output of instance i that the entry counts have lists
 abbrev pub Provided : {M : Type 0} → List ℕ → List Connection → ℕ → Entry M → Type 0
-Provided lens cs i e = (o : ℕ) → 1 ≤ count e o → All (Filled lens) (targets cs (Inside i o))
+Provided lens cs i e = (o : ℕ) → 1 ≤ count e o → AllByRecursion (Filled lens) (targets cs (Inside i o))
 
 -- a forming that came to the first n rows
 pub record Listed {X : Type 0} (P : Formation X → Type 0) (rows : List X) (n : ℕ) : Type 0 where

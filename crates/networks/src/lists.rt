@@ -1,7 +1,7 @@
 // Forming the list of a source and of a place over lent rows: joined and reduced, one target and one count at a time.
 // Every function answers how many rows the list takes, or none where a reduced list is above 16.
 ghost use Rattle.std.specs.Prelude.{◌≡◌, ◌+◌, ◌*◌, ◌<◌, ◌≤◌, [], ◌∷◌, ◌++◌, length, take, slice_index};
-ghost use Rattle.std.specs.List.{AllByRecursion as All};
+ghost use Rattle.std.specs.List.{AllByRecursion};
 ghost use Rattle.costs.specs.declared.entry.Entry.{Entry};
 ghost use Rattle.sheets.specs.declared.words.End.TheVariants.{Outside};
 ghost use Rattle.networks.specs.Forming.{Reduces};
@@ -154,7 +154,7 @@ pub(crate) fn source_list<M: Measure, R: Reducer<M>>(
     joined: &mut [Entry<M>],
 ) -> Option<usize>
     requires lent { Lent lists.now lens.now }
-    requires filled { All (Filled lens.now) (targets cs.now s) }
+    requires filled { AllByRecursion (Filled lens.now) (targets cs.now s) }
     requires room { (256 ≤ length src.old) × (length joined.old ≡ 256) }
     ensures { Came (SourceList M.Measure.ops R.gives (table_at lists.now lens.now) (targets cs.now s)) src.new result }
 {
@@ -184,7 +184,7 @@ fn send<M: Measure, R: Reducer<M>>(
     joined: &mut [Entry<M>],
 ) -> Option<usize>
     requires lent { Lent lists.now lens.now }
-    requires filled { 1 ≤ n → All (Filled lens.now) (targets cs.now s) }
+    requires filled { 1 ≤ n → AllByRecursion (Filled lens.now) (targets cs.now s) }
     requires list { (1 ≤ len) × (len ≤ 16) }
     requires room { (256 ≤ length acc.old) × (256 ≤ length src.old) × (length joined.old ≡ 256) }
     ensures { Came (Sends M.Measure.ops R.gives (table_at lists.now lens.now) (targets cs.now s) n (take len acc.old)) acc.new result }
@@ -269,7 +269,7 @@ pub(crate) fn place_list<M: Measure, R: Reducer<M>>(
 ) -> Option<usize>
     requires lent { Lent lists.now lens.now }
     requires card { (1 ≤ length entries.now) × (length entries.now ≤ 16) }
-    requires sent { All (Provided lens.now cs.now i) entries.now }
+    requires sent { AllByRecursion (Provided lens.now cs.now i) entries.now }
     requires room { (256 ≤ length acc.old) × (256 ≤ length src.old) × (length joined.old ≡ 256) × (256 ≤ length gathered.old) }
     ensures { Came (PlaceList M.Measure.ops R.gives (table_at lists.now lens.now) cs.now i entries.now) acc.new result }
 {

@@ -1,6 +1,6 @@
 // The table of the lists of places, and the lists of the composite's own events, in lent rows.
 ghost use Rattle.std.specs.Prelude.{◌≡◌, ℕ, ◌+◌, ◌*◌, ◌/◌, ◌%◌, ◌<◌, ◌≤◌, length, take, MatchResult, OnOk, slice_index, slice_index_or};
-ghost use Rattle.std.specs.List.{ContainsAt as Has, AllByRecursion as All};
+ghost use Rattle.std.specs.List.{ContainsAt as Has, AllByRecursion};
 ghost use Rattle.costs.specs.Entries.{entry_ops};
 ghost use Rattle.order.specs.Order.{Order};
 ghost use Rattle.sheets.specs.declared.words.End.TheVariants.{Outside};
@@ -50,7 +50,7 @@ fn work_place<M: Measure, R: Reducer<M>>(
     requires lent { Lent lists.old lens.old }
     requires place { (k < length lens.old) × (k < 128) }
     requires card { (1 ≤ length entries.now) × (length entries.now ≤ 16) }
-    requires sent { All (Provided lens.old cs.now (k / 8)) entries.now }
+    requires sent { AllByRecursion (Provided lens.old cs.now (k / 8)) entries.now }
     requires room { (256 ≤ length acc.old) × (256 ≤ length src.old) × (length joined.old ≡ 256) × (256 ≤ length gathered.old) }
     ensures { MatchResult result (λ _. Stored (λ es. PlaceList M.Measure.ops R.Reducer.gives (table_at lists.old lens.old) cs.now (k / 8) entries.now (list es)) k lists.old lens.old lists.new lens.new) (λ n. (n ≡ k) × PlaceList M.Measure.ops R.Reducer.gives (table_at lists.old lens.old) cs.now (k / 8) entries.now long) }
 {
@@ -131,7 +131,7 @@ pub(crate) fn work_events<M: Measure, R: Reducer<M>>(
 ) -> Result<(), usize>
     requires inputs { inputs ≤ 8 }
     requires lent { Lent lists.now lens.now }
-    requires filled { (e : ℕ) → All (Filled lens.now) (targets cs.now (Outside e)) }
+    requires filled { (e : ℕ) → AllByRecursion (Filled lens.now) (targets cs.now (Outside e)) }
     requires room { (256 ≤ length src.old) × (length joined.old ≡ 256) }
     requires results { Lent results.old ends.old }
     requires eight { length ends.old ≡ 8 }

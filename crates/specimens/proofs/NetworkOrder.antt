@@ -1,7 +1,7 @@
 -- The working order of the two places. Assumes nothing.
 use Rattle.std.proofs.Common.{◌≡◌, ℕ, zero, suc, ◌+◌, ◌*◌, ◌/◌, ◌%◌, ◌<◌, ◌≤◌, true, ◌⊎◌, List, [], ◌∷◌, sym, refl, subst, inl, inr, ⊎_elim, arith}
 use borrow.Author.Tests.{clash}
-use Rattle.std.specs.List.{ContainsAt as Has, AllByRecursion as All}
+use Rattle.std.specs.List.{ContainsAt as Has, AllByRecursion}
 use Rattle.std.proofs.ByRecursion.{all-has}
 use Rattle.std.proofs.lemmas.Bool.{cases_lt, cond_both}
 use Rattle.costs.proofs.Interface.{among_all}
@@ -13,11 +13,11 @@ use Rattle.networks.specs.Networks.{same, targets, Named, Node, Leads, WorkedIn}
 use Rattle.specimens.specs.CostCases.{entry}
 use Rattle.specimens.specs.NetworkCases.{two, two_faces, two_cards}
 
-all_targets_from : (P : End → Type 0) (cs : List Connection) (s : End) → All (λ c. same c.source s ≡ true → P c.target) cs → All P (targets cs s)
+all_targets_from : (P : End → Type 0) (cs : List Connection) (s : End) → AllByRecursion (λ c. same c.source s ≡ true → P c.target) cs → AllByRecursion P (targets cs s)
 all_targets_from P [] s all = tt
 all_targets_from P (c ∷ cs) s all =
     let rest = all_targets_from P cs s all.1 in
-    cond_both (same c.source s) (c.target ∷ targets cs s) (targets cs s) (All P) (λ e. (all.0 e, rest)) (λ _. rest)
+    cond_both (same c.source s) (c.target ∷ targets cs s) (targets cs s) (AllByRecursion P) (λ e. (all.0 e, rest)) (λ _. rest)
 
 pub narrow : (i : ℕ) → i < 2 → (two_faces i).inputs ≤ 8
 narrow zero within = omega arith

@@ -1,6 +1,6 @@
 -- The sum of the actions, from the last to the first. Assumes nothing.
 use Rattle.std.proofs.Common.{◌≡◌, ◌+◌, ◌-◌, [], get_or, drop, sym, ap, ◌∙◌, subst, arith}
-use Rattle.std.specs.List.{AllByRecursion as All}
+use Rattle.std.specs.List.{AllByRecursion}
 use Rattle.std.proofs.ByRecursion.{All-get_or}
 use Rattle.std.proofs.lemmas.List.{at_drop_more, at_drop_all}
 use Rattle.costs.specs.Entries.{entry_ops}
@@ -19,7 +19,7 @@ action_at-requires g c = omega (arith, c.actions-j.ensures)
 pub action_cost-requires : goal.action_cost-requires
 action_cost-requires g c =
     let S = says c.args.sheet.now in
-    let all = All-get_or (All (NamedAction S)) S.states c.args.s [] c.requires.state c.requires.named.states in
+    let all = All-get_or (AllByRecursion (NamedAction S)) S.states c.args.s [] c.requires.state c.requires.named.states in
     record {
       width = c.requires.width;
       named = subst (NamedAction S) (sym c.action_at.ensures) (All-get_or (NamedAction S) (get_or S.states c.args.s []) (c.loop-j.j - 1) no_action (omega (arith, c.actions-j.ensures)) all);

@@ -11,7 +11,7 @@ use Rattle.networks.specs.Rows.{Filled, table_at}
 use Rattle.sheets.specs.declared.words.Connection.{Connection}
 use Rattle.sheets.specs.declared.words.End.TheVariants.{Outside}
 use Rattle.std.proofs.lemmas.List.{take_more_set, at_drop_all, length-set}
-use Rattle.std.specs.List.{AllByRecursion as All}
+use Rattle.std.specs.List.{AllByRecursion}
 
 c₀ : Connection
 c₀ = record { source = Outside 0; target = Outside 0 }
@@ -28,7 +28,7 @@ unfolding c₀
 follow-requires g c =
     let l = c.loop-c in
     let hit = targets_hit c.args.cs.now l.c-index c₀ c.args.s c.loop-c-test.true (sym c.if-is_same.ensures) in
-    record { lent = c.requires.lent; filled = (subst (All (Filled c.args.lens.now)) hit l.invariant.2).0; list = (l.invariant.0, l.invariant.1); room = (omega (arith, length-set c.args.src.now 0 c.zero.result), omega arith) }
+    record { lent = c.requires.lent; filled = (subst (AllByRecursion (Filled c.args.lens.now)) hit l.invariant.2).0; list = (l.invariant.0, l.invariant.1); room = (omega (arith, length-set c.args.src.now 0 c.zero.result), omega arith) }
 
 pub returns-in-None : goal.returns-in-None
 unfolding c₀
@@ -57,7 +57,7 @@ loop-c-preserved g c =
           let rows = ap (λ k. take k c.if-is_same.src) w.len-is ∙ ap (take w.in-Some.m) w.src-is in (
             omega (arith, w.len-is, h.some),
             omega (arith, w.len-is, h.few),
-            (subst (All (Filled c.args.lens.now)) hit l.invariant.2).1,
+            (subst (AllByRecursion (Filled c.args.lens.now)) hit l.invariant.2).1,
             λ o q. l.invariant.3 o (follows_on ops gives T (targets (drop i cs) s) (get_or cs i c₀).target rest (take l.len l.src) (take w.in-Some.m w.follow.new.src) hit h.formed o (subst (λ xs. Follows ops gives T rest xs o) rows q)),
           ))
       | else-is_same w ↦
@@ -65,7 +65,7 @@ loop-c-preserved g c =
           let rows = ap (λ k. take k c.if-is_same.src) w.len-is ∙ ap (take l.len) w.src-is in (
             omega (arith, w.len-is, l.invariant.0),
             omega (arith, w.len-is, l.invariant.1),
-            subst (All (Filled c.args.lens.now)) miss l.invariant.2,
+            subst (AllByRecursion (Filled c.args.lens.now)) miss l.invariant.2,
             λ o q. l.invariant.3 o (subst (λ ts. Follows ops gives T ts (take l.len l.src) o) (sym miss) (subst (λ xs. Follows ops gives T rest xs o) rows q)),
           ))
     ]

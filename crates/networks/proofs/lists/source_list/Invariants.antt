@@ -6,11 +6,11 @@ use Rattle.networks.specs.Cards.{Follows, SourceList}
 use Rattle.networks.specs.Forming.{Formation}
 use Rattle.networks.specs.Networks.{targets}
 use Rattle.networks.specs.Rows.{Filled, table_at}
-use Rattle.std.specs.List.{AllByRecursion as All}
+use Rattle.std.specs.List.{AllByRecursion}
 
 -- what is left of the targets gives what the whole gives
 abbrev pub invariant-loop-c : goal.invariant-loop-c
 invariant-loop-c g l =
     (1 ≤ l.len) × (l.len ≤ 16)
-    × All (Filled l.lens) (targets (drop l.c-index l.cs) l.s)
+    × AllByRecursion (Filled l.lens) (targets (drop l.c-index l.cs) l.s)
     × ((o : Formation (Entry g.row.M.Denot)) → Follows g.M.Measure.ops g.R.Reducer.gives (table_at l.lists l.lens) (targets (drop l.c-index l.cs) l.s) (take l.len l.src) o → SourceList g.M.Measure.ops g.R.Reducer.gives (table_at l.lists l.lens) (targets l.cs l.s) o)

@@ -1,7 +1,7 @@
 -- The answers to the needs of `unnamed`. Assumes nothing.
 use Rattle.std.proofs.Common.{sym, refl, subst, arith}
 use borrow.Author.Tests.{clash}
-use Rattle.std.specs.List.{AllByRecursion as All}
+use Rattle.std.specs.List.{AllByRecursion}
 use Rattle.std.proofs.ByRecursion.{All-more}
 use Rattle.std.proofs.lemmas.List.{take_all}
 use Rattle.networks.specs.Networks.{says, network_of, NamedConnection}
@@ -25,4 +25,4 @@ loop-k-preserved g c =
 pub returns : goal.returns
 returns g c =
     let net = network_of (says c.args.sheet.now) (g.B.Beneath.faces c.args.beneath.now) in
-    subst (All (NamedConnection net)) (take_all c.loop-k.k net.connections (omega (arith, c.count-k-end.ensures))) c.loop-k.invariant
+    subst (AllByRecursion (NamedConnection net)) (take_all c.loop-k.k net.connections (omega (arith, c.count-k-end.ensures))) c.loop-k.invariant

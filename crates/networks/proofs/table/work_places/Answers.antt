@@ -13,7 +13,7 @@ use Rattle.networks.specs.Rows.{Filled, Provided, list_at, net_of, table_at}
 use Rattle.order.proofs.Orders.{order_take}
 use Rattle.std.proofs.lemmas.List.{take_more, take_all}
 use Rattle.std.proofs.lemmas.Result.{err_from_is_err_and}
-use Rattle.std.specs.List.{ContainsAt as Has, AllByRecursion as All}
+use Rattle.std.specs.List.{ContainsAt as Has, AllByRecursion}
 
 pub work_place-requires : goal.work_place-requires
 work_place-requires g c =
@@ -33,7 +33,7 @@ work_place-requires g c =
       lent = l.invariant.0;
       place = (omega (arith, node.0, given.instances), omega (arith, node.0, given.instances));
       card = (subst (λ es. 1 ≤ length es) (sym is) sized.0, subst (λ es. length es ≤ 16) (sym is) sized.1);
-      sent = subst (All (Provided {M = g.row.M.Denot} l.lens net.connections (k / 8))) (sym is) sent;
+      sent = subst (AllByRecursion (Provided {M = g.row.M.Denot} l.lens net.connections (k / 8))) (sym is) sent;
       room = (omega arith, omega arith, omega arith, omega arith);
     }
 
