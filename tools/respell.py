@@ -78,6 +78,17 @@ def aliases(text):
     return names
 
 
+def local_lemmas(path, text):
+    """The lemmas that a function's proof file has for itself; those of type `goal.x` are answers, and Rattle names them."""
+    names = {}
+    if MADE.search(path):
+        for line in text.split("\n"):
+            m = re.match(r"(?:pub )?([A-Za-z]\w*(?:-[\w'₀-₉]+)+)\s*(?:\{[^}]*\}\s*)?(?:\([^)]*\)\s*)*: (?!goal\.)", line)
+            if m:
+                names[m.group(1)] = m.group(1).replace("-", "_")
+    return names
+
+
 def all_by_recursion(text):
     """`AllByRecursion as All`, as port.py leaves it, by its own name."""
     if "AllByRecursion as All" not in text:
@@ -163,7 +174,7 @@ def main():
     words = sources(texts)
     count = 0
     for path, text in texts.items():
-        new = (antt if path.endswith(".antt") else rust)(text, {**table, **aliases(text)})
+        new = (antt if path.endswith(".antt") else rust)(text, {**table, **aliases(text), **local_lemmas(path, text)})
         if MADE.search(path):
             new = made(new, words, foreign)
         new = all_by_recursion(new)

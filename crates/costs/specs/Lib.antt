@@ -1,6 +1,7 @@
 -- What the crate promises: measures, entries, lists, runs, and the two reducers. Assumes nothing.
 pub mod Amounts
 pub mod Measures
+pub mod MeasureLaws
 pub mod Entries
 pub mod Lists
 pub mod Runs

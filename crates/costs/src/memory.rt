@@ -1,6 +1,6 @@
 // Memory: an amount of bytes in use, an unsigned number of 2 bytes.
 ghost use Rattle.costs.specs.Measures.{memory_ops, memory_meant};
-ghost use Rattle.std.proofs.Common.{rules};
+ghost use Rattle.costs.specs.MeasureLaws.{memory_lawful, two_bytes};
 
 use crate::measure::Measure;
 
@@ -21,9 +21,9 @@ impl Measure for Memory {
 
     ghost meant = { memory_meant };
 
-    ghost lawful = { Prim.search rules };
+    ghost lawful = { memory_lawful };
 
-    ghost narrow = { Prim.search rules };
+    ghost narrow = { two_bytes };
 
     fn zero() -> Memory {
         Memory { value: 0 }

@@ -1,7 +1,6 @@
 // Ticks as a measure.
 ghost use Rattle.costs.specs.Measures.{ticks_ops, ticks_meant};
-ghost use Rattle.std.proofs.Common.{arith, rules};
-ghost use Rattle.costs.specs.Same.{same_ticks};
+ghost use Rattle.costs.specs.MeasureLaws.{ticks_lawful, four_bytes};
 
 use crate::measure::Measure;
 use crate::ticks::Ticks;
@@ -13,21 +12,9 @@ impl Measure for Ticks {
 
     ghost meant = { ticks_meant };
 
-    ghost lawful = { record {
-      associative = λ a b c. same_ticks _ _ (omega arith);
-      commutative = λ a b. same_ticks _ _ (omega arith);
-      neutral = λ a. same_ticks _ _ (omega arith);
-      reflexive = Prim.search rules;
-      transitive = Prim.search rules;
-      antisymmetric = λ a b h k. same_ticks _ _ (Prim.grind arith);
-      least = Prim.search rules;
-      monotone = Prim.search rules;
-      higher_left = Prim.search rules;
-      higher_right = Prim.search rules;
-      higher_least = Prim.search rules;
-    } };
+    ghost lawful = { ticks_lawful };
 
-    ghost narrow = { first_of (Prim.search rules, Prim.grind (arith, Self.row.coded.inj)) };
+    ghost narrow = { four_bytes };
 
     fn zero() -> Ticks {
         Ticks { value: 0 }

@@ -8,9 +8,9 @@ use Rattle.specimens.proofs.NetworkCases.{network_cases}
 use Rattle.specimens.specs.CostCases.{CostCases}
 use Rattle.specimens.proofs.cases_hold.Goals as goal
 
-cost-cases : CostCases
+cost_cases : CostCases
 unfolding kept merged_alone merged
-cost-cases = record {
+cost_cases = record {
   ticks_exact = same_ticks _ _ refl;
   ticks_over = same_ticks _ _ refl;
   memory_greater = refl;
@@ -19,4 +19,4 @@ cost-cases = record {
 }
 
 pub returns : goal.returns
-returns c = record { costs = cost-cases; branches = two_branches; example = example_sheet; networks = network_cases }
+returns c = record { costs = cost_cases; branches = two_branches; example = example_sheet; networks = network_cases }

@@ -9,8 +9,8 @@ use Rattle.library.proofs.Forming.{card_in}
 use Rattle.library.proofs.Working.{chart_card, chart_sized}
 use Rattle.library.proofs.place.work_chart.Goals as goal
 
-no-face : Face
-no-face = record { inputs = 0; outputs = 0 }
+no_face : Face
+no_face = record { inputs = 0; outputs = 0 }
 
 pub returns-in-Ok : goal.returns-in-Ok
 returns-in-Ok g c =
@@ -24,5 +24,5 @@ returns-in-Ok g c =
     let eight : length lens ≡ 8 = search usual in
     record {
       answer = λ f cards. chart_card R f cards s c.requires.block out lens e.answer e.lengths.unused;
-      rows = card_in (entry_ops g.M.Measure.ops).zero s.face.inputs out lens form.few_inputs (omega arith) eight (chart_sized R (λ _. no-face) (λ _ _. []) s out lens e.whole) e.lengths.unused e.rows.0;
+      rows = card_in (entry_ops g.M.Measure.ops).zero s.face.inputs out lens form.few_inputs (omega arith) eight (chart_sized R (λ _. no_face) (λ _ _. []) s out lens e.whole) e.lengths.unused e.rows.0;
     }
