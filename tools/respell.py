@@ -45,6 +45,12 @@ def code_of(line):
     return (line, "") if at is None else (line[: at.start()], line[at.start():])
 
 
+def snake(name):
+    """`entry-ops` as `entry_ops`; the older kit's words `getD` and `putMid` in a lemma's name as today's."""
+    name = re.sub(r"(?<=\w)-(?=\w)", "_", name)
+    return name.replace("getD", "get_or").replace("putMid", "put_mid")
+
+
 def declared(texts):
     own, every = set(), set()
     for path, text in texts.items():
@@ -73,8 +79,8 @@ def aliases(text):
     names = {}
     for line in text.split("\n"):
         if re.match(r"(?:ghost )?(?:pub )?use ", line):
-            for name in re.findall(r" as ([A-Za-z]+(?:-[A-Za-z]+)+)(?=[,}])", line):
-                names[name] = name.replace("-", "_").replace("Taken_of", "taken_of")
+            for name in re.findall(r" as ([A-Za-z][\w-]*)(?=[,}])", line):
+                names[name] = snake(name).replace("Taken_of", "taken_of")
     return names
 
 
@@ -83,9 +89,9 @@ def local_lemmas(path, text):
     names = {}
     if MADE.search(path):
         for line in text.split("\n"):
-            m = re.match(r"(?:pub )?([A-Za-z]\w*(?:-[\w'₀-₉]+)+)\s*(?:\{[^}]*\}\s*)?(?:\([^)]*\)\s*)*: (?!goal\.)", line)
+            m = re.match(r"(?:pub )?([A-Za-z][\w'₀-₉-]*)\s*(?:\{[^}]*\}\s*)?(?:\([^)]*\)\s*)*: (?!goal\.)", line)
             if m:
-                names[m.group(1)] = m.group(1).replace("-", "_")
+                names[m.group(1)] = snake(m.group(1))
     return names
 
 
@@ -166,7 +172,7 @@ def main():
             texts[path] = f.read()
     own, every = declared(texts)
     foreign = imported(texts)
-    table = {n: n.replace("-", "_") for n in own if re.search(r"\w-\w", n) and n not in foreign}
+    table = {n: snake(n) for n in own if snake(n) != n and n not in foreign}
     both = collections.Counter(table.values())
     clash = sorted(n for n, to in table.items() if both[to] > 1 or to in every or to in foreign)
     if clash:

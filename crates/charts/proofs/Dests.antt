@@ -70,10 +70,10 @@ pub joined_same : {X : Type 0} (T V : ℕ → List X) (ds : List ℕ) → ((d : 
 joined_same T V [] same = refl
 joined_same T V (d ∷ ds) same = ap (λ l. l ++ flat_map T ds) (same d (inl refl)) ∙ ap (λ l. V d ++ l) (joined_same T V ds (λ x m. same x (inr m)))
 
-pub among_getD : {X : Type 0} (xs : List X) (i : ℕ) (x : X) → i < length xs → Among (get_or xs i x) xs
-among_getD [] i x within = absurd (omega arith)
-among_getD (y ∷ ys) zero x within = inl refl
-among_getD (y ∷ ys) (suc i) x within = inr (among_getD ys i x (omega arith))
+pub among_get_or : {X : Type 0} (xs : List X) (i : ℕ) (x : X) → i < length xs → Among (get_or xs i x) xs
+among_get_or [] i x within = absurd (omega arith)
+among_get_or (y ∷ ys) zero x within = inl refl
+among_get_or (y ∷ ys) (suc i) x within = inr (among_get_or ys i x (omega arith))
 
 -- the destinations from transition i on: with its own where it passes
 pub dests_hit : (p : Transition → Bool) (ts : List Transition) (i : ℕ) (t : Transition) → i < length ts → p (get_or ts i t) ≡ true → dests p (drop i ts) ≡ (get_or ts i t).destination ∷ dests p (drop (i + 1) ts)

@@ -8,18 +8,18 @@ use Rattle.costs.specs.declared.counts.Counts.{Counts}
 use Rattle.costs.specs.AnyLaws.{and_true}
 use Rattle.costs.specs.Same.{same_counts}
 
-getD_first_counts : (n : ℕ) (bs : List ℕ) (k : ℕ) → k < n → slice_index (first_counts n bs) k ≡ min (slice_index bs k) 255
-getD_first_counts zero bs k l = absurd (omega arith)
-getD_first_counts (suc n) [] zero l = refl
-getD_first_counts (suc n) [] (suc k) l = getD_first_counts n [] k (omega arith)
-getD_first_counts (suc n) (b ∷ bs) zero l = refl
-getD_first_counts (suc n) (b ∷ bs) (suc k) l = getD_first_counts n bs k (omega arith)
+get_or_first_counts : (n : ℕ) (bs : List ℕ) (k : ℕ) → k < n → slice_index (first_counts n bs) k ≡ min (slice_index bs k) 255
+get_or_first_counts zero bs k l = absurd (omega arith)
+get_or_first_counts (suc n) [] zero l = refl
+get_or_first_counts (suc n) [] (suc k) l = get_or_first_counts n [] k (omega arith)
+get_or_first_counts (suc n) (b ∷ bs) zero l = refl
+get_or_first_counts (suc n) (b ∷ bs) (suc k) l = get_or_first_counts n bs k (omega arith)
 
-getD_zipped : (f : ℕ → ℕ → ℕ) (xs ys : List ℕ) (k : ℕ) → k < length xs → k < length ys → slice_index (zipped f xs ys) k ≡ f (slice_index xs k) (slice_index ys k)
-getD_zipped f [] ys k p q = absurd (omega arith)
-getD_zipped f (x ∷ xs) [] k p q = absurd (omega arith)
-getD_zipped f (x ∷ xs) (y ∷ ys) zero p q = refl
-getD_zipped f (x ∷ xs) (y ∷ ys) (suc k) p q = getD_zipped f xs ys k (omega arith) (omega arith)
+get_or_zipped : (f : ℕ → ℕ → ℕ) (xs ys : List ℕ) (k : ℕ) → k < length xs → k < length ys → slice_index (zipped f xs ys) k ≡ f (slice_index xs k) (slice_index ys k)
+get_or_zipped f [] ys k p q = absurd (omega arith)
+get_or_zipped f (x ∷ xs) [] k p q = absurd (omega arith)
+get_or_zipped f (x ∷ xs) (y ∷ ys) zero p q = refl
+get_or_zipped f (x ∷ xs) (y ∷ ys) (suc k) p q = get_or_zipped f xs ys k (omega arith) (omega arith)
 
 and_assoc : (a b c : Bool) → ((a && b) && c) ≡ (a && (b && c))
 and_assoc true b c = refl
@@ -48,10 +48,10 @@ none_lower_more xs ys i p q = let next : i + 1 ≡ suc i = omega arith in ap (λ
 
 -- at each of the eight outputs
 pub counts_by_at : (f : ℕ → ℕ → ℕ) (a b : Counts) (k : ℕ) → k < 8 → slice_index (zipped f a.at b.at) k ≡ f (slice_index a.at k) (slice_index b.at k)
-counts_by_at f a b k l = getD_zipped f a.at b.at k (omega arith) (omega arith)
+counts_by_at f a b k l = get_or_zipped f a.at b.at k (omega arith) (omega arith)
 
 pub counts_of_at : (bs : List ℕ) (k : ℕ) → k < 8 → slice_index (counts_of bs).at k ≡ min (slice_index bs k) 255
-counts_of_at bs k l = getD_first_counts 8 bs k l
+counts_of_at bs k l = get_or_first_counts 8 bs k l
 
 pub no_counts_at : (k : ℕ) → k < 8 → slice_index no_counts.at k ≡ 0
 no_counts_at k l = counts_of_at [] k l

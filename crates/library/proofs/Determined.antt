@@ -16,7 +16,7 @@ use Rattle.library.specs.Books.{Rules}
 use Rattle.library.specs.Checks.{ChartStops}
 use Rattle.library.specs.Refusals.{Told, by_chart}
 use Rattle.library.proofs.Deciding.{unworkable_not, unworkable_one}
-use Rattle.library.proofs.Soundness.{getD_lists}
+use Rattle.library.proofs.Soundness.{get_or_lists}
 
 -- what an outcome says
 abbrev lists_in : {X : Type 0} → Outcome X → List (List X)
@@ -36,7 +36,7 @@ pub same_cards : {M : Type 0} (n : ℕ) (c d : ℕ → List (Entry M)) → lists
 same_cards n c d same none also = λ i e. at e i
   where
     at : (e : ℕ) → c e ≡ d e
-    at e = ⊎_elim (λ low. sym (getD_lists c n e low) ∙ ap (λ l. get_or l e []) same ∙ getD_lists d n e low) (λ high. none e high ∙ sym (also e high)) (cases_lt e n)
+    at e = ⊎_elim (λ low. sym (get_or_lists c n e low) ∙ ap (λ l. get_or l e []) same ∙ get_or_lists d n e low) (λ high. none e high ∙ sym (also e high)) (cases_lt e n)
 
 module _ {M : Type 0} (rules : Rules M) (f : List (Entry M) → List (Entry M)) (computes : Computes rules.gives f) (s : Sheet) where
   -- one outcome of a basic or a service sheet

@@ -2,7 +2,7 @@
 use Rattle.std.proofs.Common.{◌≡◌, ℕ, List, length, get_or, Some, None, Ok, Err, Result, sym, refl, ⊎_elim, arith, MatchResult}
 use Rattle.std.specs.List.{slice_get}
 use Rattle.std.proofs.lemmas.List.{get_or_past}
-use Rattle.std.proofs.lemmas.Option.{slice_get-get_or as nth_getD, slice_get_past as nth_past}
+use Rattle.std.proofs.lemmas.Option.{slice_get-get_or as nth_get_or, slice_get_past as nth_past}
 use Rattle.std.proofs.lemmas.Bool.{cases_lt}
 use Rattle.costs.specs.declared.entry.Entry.{Entry}
 use Rattle.sheets.specs.Sheets.{Sheet, sheet_of}
@@ -17,11 +17,11 @@ use Rattle.library.specs.declared.row.Row.{Row}
 module _ (xs : List ℕ) (k d : ℕ) where
   pub nth_found : (n : ℕ) → slice_get xs k ≡ Some n → n ≡ get_or xs k d
   nth_found n e =
-      ⊎_elim (λ low. let p = nth_getD xs k d low in cc) (λ high. let p = nth_past xs k high in let z : ◌≡◌ {A = ℕ} 0 1 = cc in absurd (omega arith)) (cases_lt k (length xs))
+      ⊎_elim (λ low. let p = nth_get_or xs k d low in cc) (λ high. let p = nth_past xs k high in let z : ◌≡◌ {A = ℕ} 0 1 = cc in absurd (omega arith)) (cases_lt k (length xs))
 
   pub nth_none : slice_get xs k ≡ None → d ≡ get_or xs k d
   nth_none e =
-      ⊎_elim (λ low. let p = nth_getD xs k d low in let z : ◌≡◌ {A = ℕ} 0 1 = cc in absurd (omega arith)) (λ high. sym (get_or_past xs k d high)) (cases_lt k (length xs))
+      ⊎_elim (λ low. let p = nth_get_or xs k d low in let z : ◌≡◌ {A = ℕ} 0 1 = cc in absurd (omega arith)) (λ high. sym (get_or_past xs k d high)) (cases_lt k (length xs))
 
 pub first_as : {P Q : ℕ → Type 0} → ((i : ℕ) → P i → Q i) → ((i : ℕ) → Q i → P i) → (k : ℕ) → First P k → First Q k
 first_as f g k h = record { holds = f k h.holds; before = λ j lt q. h.before j lt (g j q) }

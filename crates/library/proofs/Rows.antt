@@ -71,23 +71,23 @@ module _ {M : Type 0} (zero' : Entry M) (card : ℕ → List (Entry M)) where
   pub event_list : (e : ℕ) → e < 8 → length (card e) ≤ 16 → take (length (card e)) (drop (16 * e) (card_rows zero' card)) ≡ card e
   event_list e below short = take_joined (λ e. padded zero' (card e)) (λ e. length_padded zero' (card e)) e (length (card e)) below short ∙ take_padded zero' (card e) short
 
-  pub getD_lens_of : (e : ℕ) → e < 8 → get_or (lens_of card) e 0 ≡ length (card e)
-  getD_lens_of zero below = refl
-  getD_lens_of (suc zero) below = refl
-  getD_lens_of (suc (suc zero)) below = refl
-  getD_lens_of (suc (suc (suc zero))) below = refl
-  getD_lens_of (suc (suc (suc (suc zero)))) below = refl
-  getD_lens_of (suc (suc (suc (suc (suc zero))))) below = refl
-  getD_lens_of (suc (suc (suc (suc (suc (suc zero)))))) below = refl
-  getD_lens_of (suc (suc (suc (suc (suc (suc (suc zero))))))) below = refl
-  getD_lens_of (suc (suc (suc (suc (suc (suc (suc (suc e)))))))) below = absurd (omega arith)
+  pub get_or_lens_of : (e : ℕ) → e < 8 → get_or (lens_of card) e 0 ≡ length (card e)
+  get_or_lens_of zero below = refl
+  get_or_lens_of (suc zero) below = refl
+  get_or_lens_of (suc (suc zero)) below = refl
+  get_or_lens_of (suc (suc (suc zero))) below = refl
+  get_or_lens_of (suc (suc (suc (suc zero)))) below = refl
+  get_or_lens_of (suc (suc (suc (suc (suc zero))))) below = refl
+  get_or_lens_of (suc (suc (suc (suc (suc (suc zero)))))) below = refl
+  get_or_lens_of (suc (suc (suc (suc (suc (suc (suc zero))))))) below = refl
+  get_or_lens_of (suc (suc (suc (suc (suc (suc (suc (suc e)))))))) below = absurd (omega arith)
 
   -- the list of any event, where numbers past the eighth have none, read off rows that begin with the card's
   pub list_off : (rows : List (Entry M)) → take 128 rows ≡ card_rows zero' card → ((e : ℕ) → length (card e) ≤ 16) → ((e : ℕ) → 8 ≤ e → card e ≡ []) → (e : ℕ) → list_at rows (lens_of card) e ≡ card e
   list_off rows is short none e =
       ⊎_elim
       (λ low.
-      ap (λ l. take l (drop (16 * e) rows)) (getD_lens_of e low) ∙ sym (part_take rows (16 * e) (length (card e)) 128 (omega (arith, short e)))
+      ap (λ l. take l (drop (16 * e) rows)) (get_or_lens_of e low) ∙ sym (part_take rows (16 * e) (length (card e)) 128 (omega (arith, short e)))
       ∙ ap (λ r. take (length (card e)) (drop (16 * e) r)) is ∙ event_list e low (short e))
       (λ high. ap (λ l. take l (drop (16 * e) rows)) (get_or_past (lens_of card) e 0 high) ∙ sym (none e high))
       (cases_lt e 8)
@@ -117,4 +117,4 @@ module _ {M : Type 0} (zero' : Entry M) (rows : List (Entry M)) (lens : List ℕ
   pub lens_of_card : length lens ≡ 8 → lens ≡ lens_of (list_at rows lens)
   lens_of_card eight =
       same_lists lens (lens_of (list_at rows lens)) eight
-      (λ k d lt. get_or_default lens k d 0 lt ∙ sym (length_list k (omega arith)) ∙ sym (getD_lens_of zero' (list_at rows lens) k (omega arith)) ∙ get_or_default (lens_of (list_at rows lens)) k 0 d (omega arith))
+      (λ k d lt. get_or_default lens k d 0 lt ∙ sym (length_list k (omega arith)) ∙ sym (get_or_lens_of zero' (list_at rows lens) k (omega arith)) ∙ get_or_default (lens_of (list_at rows lens)) k 0 d (omega arith))

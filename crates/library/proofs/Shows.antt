@@ -13,7 +13,7 @@ use Rattle.library.specs.Tables.{row_at, padded, overwritten}
 use Rattle.library.specs.declared.row.Row.{Row}
 use Rattle.library.proofs.Parts.{part_take}
 use Rattle.library.proofs.Reading.{counted_is, row_is, book_current, card_short}
-use Rattle.library.proofs.Rows.{event_rows, getD_lens_of, length_padded, take_padded}
+use Rattle.library.proofs.Rows.{event_rows, get_or_lens_of, length_padded, take_padded}
 
 module _ {M : Type 0} (rules : Rules M) (index : List Row) (cards out : List (Entry M)) (n e rows : ℕ) {b : Book M} {shelf : List ℕ} (st : Stands rules b shelf index cards) (r : ℕ) (count : Counted index r) where
   abbrev lent : Lent
@@ -63,7 +63,7 @@ module _ {M : Type 0} (rules : Rules M) (index : List Row) (cards out : List (En
           card_copied = es ∙ ap (overwritten out 0) copied
 
           pub card_length : l ≡ length ((at b n).card e)
-          card_length = len ∙ ap (λ (x : Row). get_or x.lens e 0) (is ∙ row_is st n in_book) ∙ getD_lens_of zero' (at b n).card e eight
+          card_length = len ∙ ap (λ (x : Row). get_or x.lens e 0) (is ∙ row_is st n in_book) ∙ get_or_lens_of zero' (at b n).card e eight
 
           card_list : take l out' ≡ (at b n).card e
           card_list =

@@ -30,13 +30,13 @@ Plain Service = Unit {0}
 Plain Composite = ⊥
 
 -- event e of the lists of all events
-pub getD_lists_from : {X : Type 0} (lists : ℕ → List X) (n d e : ℕ) → e < n → get_or (lists_from lists n d) e [] ≡ lists (d + e)
-getD_lists_from lists zero d e lt = absurd (omega arith)
-getD_lists_from lists (suc n) d zero lt = ap lists (let z : d ≡ d + 0 = omega arith in z)
-getD_lists_from lists (suc n) d (suc e) lt = getD_lists_from lists n (d + 1) e (omega arith) ∙ ap lists (let z : (d + 1) + e ≡ d + suc e = omega arith in z)
+pub get_or_lists_from : {X : Type 0} (lists : ℕ → List X) (n d e : ℕ) → e < n → get_or (lists_from lists n d) e [] ≡ lists (d + e)
+get_or_lists_from lists zero d e lt = absurd (omega arith)
+get_or_lists_from lists (suc n) d zero lt = ap lists (let z : d ≡ d + 0 = omega arith in z)
+get_or_lists_from lists (suc n) d (suc e) lt = get_or_lists_from lists n (d + 1) e (omega arith) ∙ ap lists (let z : (d + 1) + e ≡ d + suc e = omega arith in z)
 
-pub getD_lists : {X : Type 0} (lists : ℕ → List X) (n e : ℕ) → e < n → get_or (lists_from lists n 0) e [] ≡ lists e
-getD_lists lists n e lt = getD_lists_from lists n 0 e lt ∙ ap lists (let z : 0 + e ≡ e = omega arith in z)
+pub get_or_lists : {X : Type 0} (lists : ℕ → List X) (n e : ℕ) → e < n → get_or (lists_from lists n 0) e [] ≡ lists e
+get_or_lists lists n e lt = get_or_lists_from lists n 0 e lt ∙ ap lists (let z : 0 + e ≡ e = omega arith in z)
 
 module _ {M : Type 0} (ops : Amounts M) (meant : List ℕ → M) (b : Book M) where
   -- the runs of the block of instance i in composite n
@@ -116,7 +116,7 @@ module _ {M : Type 0} (rules : Rules M) (b : Book M) (facts : BookFacts rules b)
     run_covered : {n e : ℕ} {a : M} {ns : Sent} → Run rules.ops rules.meant b n e a ns → Below Covered n → Current b n → e < inputs_of b n → CoveredRun rules.ops ((at b n).card e) a ns
     run_covered (alone n e a ns run) below cur within =
         let h = chart_shown n (at b n).sheet.face.kind cur refl (λ is. not_composite n e a ns (at b n).sheet.face.kind is run) in
-        subst (λ es. CoveredRun rules.ops es a ns) (getD_lists (at b n).card (inputs_of b n) e within) (h.covers e within a ns run)
+        subst (λ es. CoveredRun rules.ops es a ns) (get_or_lists (at b n).card (inputs_of b n) e within) (h.covers e within a ns run)
     run_covered (inside n e a ns is serves) below cur within =
         let formed = formed_by n Composite cur is in
         let named = named_by n Composite cur.0 is in
@@ -140,7 +140,7 @@ module _ {M : Type 0} (rules : Rules M) (b : Book M) (facts : BookFacts rules b)
 
       chart_attained : (n : ℕ) (k : Kind) → Current b n → (at b n).sheet.face.kind ≡ k → (k ≡ Composite → ⊥) → (e : ℕ) → e < inputs_of b n → Attained n e
       chart_attained n k cur is other e within z m =
-          as_alone n e z ((chart_shown n k cur is other).attains selects e within z (subst (Among z) (sym (getD_lists (at b n).card (inputs_of b n) e within)) m))
+          as_alone n e z ((chart_shown n k cur is other).attains selects e within z (subst (Among z) (sym (get_or_lists (at b n).card (inputs_of b n) e within)) m))
 
       kind_attained : (n : ℕ) (k : Kind) → Below Attained n → Current b n → (at b n).sheet.face.kind ≡ k → (e : ℕ) → e < inputs_of b n → Attained n e
       kind_attained n Basic below cur is e within z m = chart_attained n Basic cur is (λ x. subst Plain x tt) e within z m

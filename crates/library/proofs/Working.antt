@@ -23,7 +23,7 @@ use Rattle.sheets.specs.declared.words.Kind.TheVariants.{Basic, Service, Composi
 use Rattle.library.specs.Books.{Rules}
 use Rattle.library.specs.Checks.{StopsBy, FormedBy, CardOver}
 use Rattle.library.specs.Refusals.{by_chart, by_network}
-use Rattle.library.proofs.Soundness.{getD_lists}
+use Rattle.library.proofs.Soundness.{get_or_lists}
 
 lists_are : {X : Type 0} (rows : List X) (lens : List ℕ) (n e : ℕ) → lists_at rows lens n e ≡ lists_from (list_at rows lens) n e
 lists_are rows lens zero e = refl
@@ -62,7 +62,7 @@ module _ {M : Type 0} (rules : Rules M) (faces : ℕ → Face) (cards : ℕ → 
 
   -- a list for each input has 1 to 16 entries
   pub chart_sized : (rows : List (Entry M)) (lens : List ℕ) → Whole rules.ops rules.meant s (lists_at rows lens s.face.inputs 0) → (e : ℕ) → e < s.face.inputs → Sized (list_at rows lens e)
-  chart_sized rows lens h e within = subst Sized (ap (λ l. get_or l e []) (lists_are rows lens s.face.inputs 0) ∙ getD_lists (list_at rows lens) s.face.inputs e within) (h.sized e within)
+  chart_sized rows lens h e within = subst Sized (ap (λ l. get_or l e []) (lists_are rows lens s.face.inputs 0) ∙ get_or_lists (list_at rows lens) s.face.inputs e within) (h.sized e within)
 
 -- where every number names something the check of names does not refuse
 pub chart_passes : (c : Checked) → NamedChart (says c) → (e : ChartRefusal) → Naming c (Err e) → ⊥

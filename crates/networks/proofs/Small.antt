@@ -14,8 +14,8 @@ pub at_least : (a b : ℕ) → 1 ≤ a → 1 ≤ b → 1 ≤ a * b
 at_least a b p q = mul-le-mul p q
 
 -- what has a length is one of the lists
-pub getD_within : (lens : List ℕ) (k : ℕ) → 1 ≤ get_or lens k 0 → k < length lens
-getD_within lens k some = ⊎_elim (λ below. below) (λ above. absurd (omega (arith, get_or_past lens k 0 above))) (order k (length lens))
+pub get_or_within : (lens : List ℕ) (k : ℕ) → 1 ≤ get_or lens k 0 → k < length lens
+get_or_within lens k some = ⊎_elim (λ below. below) (λ above. absurd (omega (arith, get_or_past lens k 0 above))) (order k (length lens))
 
 pub length_part : {X : Type 0} (xs : List X) (a l : ℕ) → a + l ≤ length xs → length (take l (drop a xs)) ≡ l
 length_part xs a l within = length-take-le l (drop a xs) (simp length-drop (omega arith))

@@ -8,7 +8,7 @@ use Rattle.costs.specs.Lists.{Among}
 use Rattle.order.specs.Order.{Marked}
 use Rattle.charts.specs.Charts.{is_free, dests, NamedTransition, no_transition}
 use Rattle.charts.specs.Naming.{says}
-use Rattle.charts.proofs.Dests.{among_dests, among_getD, dests_left}
+use Rattle.charts.proofs.Dests.{among_dests, among_get_or, dests_left}
 use Rattle.charts.proofs.graph.barred_way.Goals as goal
 
 pub loop-t-init : goal.loop-t-init
@@ -28,7 +28,7 @@ returns-then-is_barred c =
     let t = c.transition_at-transition.result in
     let is : t ≡ get_or ts c.loop-t.t no_transition = c.transition_at-transition.ensures in
     let barred = c.if-is_barred.ensures.0 refl in
-    let listed : Among t ts = subst (λ u. Among u ts) (sym is) (among_getD ts c.loop-t.t no_transition within) in
+    let listed : Among t ts = subst (λ u. Among u ts) (sym is) (among_get_or ts c.loop-t.t no_transition within) in
     record {
       node = (subst (λ u. u.destination < length S.states) (sym is) (All-get_or (NamedTransition S) ts c.loop-t.t no_transition within c.requires.named.transitions).destination, tt);
       way = among_dests (is_free c.args.k) ts t listed barred.0;

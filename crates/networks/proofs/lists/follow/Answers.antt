@@ -1,6 +1,6 @@
 -- The answers to the needs of `follow`. Assumes nothing.
 use Rattle.std.proofs.Common.{◌+◌, ◌*◌, ◌≤◌, get_or, take, sym, subst, arith}
-use Rattle.networks.proofs.Small.{getD_within}
+use Rattle.networks.proofs.Small.{get_or_within}
 use Rattle.networks.proofs.lists.follow.Goals as goal
 use Rattle.networks.specs.Cards.{Joins, target_list}
 use Rattle.networks.specs.Rows.{Came, Filled, table_at}
@@ -14,7 +14,7 @@ follow_inside-requires g c =
     let lens = c.args.lens.now in
     let k = 8 * c.in-Inside.i + c.in-Inside.f in
     let some : 1 ≤ get_or lens k 0 = subst (Filled lens) c.in-Inside.is c.requires.filled in
-    let within = getD_within lens k some in
+    let within = get_or_within lens k some in
     let room = c.requires.lent.room in
     record { lent = c.requires.lent; place = (within, some, c.requires.lent.short k, omega arith); list = c.requires.list; room = c.requires.room }
 
