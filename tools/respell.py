@@ -145,7 +145,8 @@ def made(text, names, keep):
 
     def one(m):
         word = m.group(0)
-        if word in keep or "-" not in word:
+        # `index-list-at` is of the element `list[at]`
+        if word in keep or "-" not in word or word == "index-list-at":
             return word
         parts = re.split(r"(-|\+)", re.sub(r"·(?=\d)", "-", word))
         for name in names:
