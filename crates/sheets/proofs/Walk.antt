@@ -13,12 +13,12 @@ use Rattle.sheets.specs.Places.{place, to_come}
 use Rattle.sheets.specs.declared.fields.Fields.{Fields}
 use Rattle.sheets.specs.declared.fields.Placed.{Placed}
 
+pub none_some : {X : Type 0} (y : X) → None ≡ Some y → ⊥
+none_some y e = cc
+
 pub cond_some : {X : Type 0} (b : Bool) (x y : X) → cond b (Some x) None ≡ Some y → (b ≡ true) × (x ≡ y)
 cond_some true x y e = (refl, cc)
-cond_some false x y e = let z : ◌≡◌ {A = ℕ} 0 1 = cc in absurd (omega arith)
-
-pub none_some : {X : Type 0} (y : X) → None ≡ Some y → ⊥
-none_some y e = let z : ◌≡◌ {A = ℕ} 0 1 = cc in omega arith
+cond_some false x y e = absurd (none_some y e)
 
 -- a field lies within the bytes
 pub within : (bs : List ℕ) (f : Raw) → field_at bs ≡ Some f → size f ≤ length bs
@@ -104,7 +104,7 @@ pub record Next (at : ℕ) (more : List Raw) (x : Placed) (rest : List (ℕ × R
   pub left : rest ≡ laid x.end after
 
 pub next : (at : ℕ) (more : List Raw) (x : Placed) (rest : List (ℕ × Raw)) → laid at more ≡ place x ∷ rest → Next at more x rest
-next at [] x rest e = let z : ◌≡◌ {A = ℕ} 0 1 = cc in absurd (omega arith)
+next at [] x rest e = absurd cc
 next at (f ∷ fs) x rest e =
     let first : ◌≡◌ {A = ℕ × Raw} (at, f) (place x) = cc in
     let others : laid (at + size f) fs ≡ rest = cc in
@@ -121,7 +121,7 @@ next at (f ∷ fs) x rest e =
 
 pub none_left : (at : ℕ) (more : List Raw) → laid at more ≡ [] → more ≡ []
 none_left at [] e = refl
-none_left at (f ∷ fs) e = let z : ◌≡◌ {A = ℕ} 0 1 = cc in absurd (omega arith)
+none_left at (f ∷ fs) e = absurd cc
 
 -- where a field ends, and 0 where there is none
 abbrev pub end_or : Option Placed → ℕ
