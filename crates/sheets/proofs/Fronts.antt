@@ -1,9 +1,8 @@
 -- The field at the front, by places. Assumes nothing.
-use Rattle.std.proofs.Common.{◌≡◌, ℕ, suc, ◌+◌, ◌*◌, ◌<◌, ◌≤◌, List, [], ◌∷◌, length, get_or, take, drop, Some, refl, arith}
+use Rattle.std.proofs.Common.{◌≡◌, ℕ, suc, ◌+◌, ◌*◌, ◌≤◌, List, [], ◌∷◌, length, get_or, take, drop, Some, refl, arith}
 use Rattle.std.proofs.lemmas.List.{length-take-le}
 use Rattle.std.proofs.lemmas.Bool.{cond-true, le-leb}
 use Rattle.std.specs.Option.{option_map}
-use Rattle.sheets.specs.Fields.{entry, entry_of}
 use Rattle.sheets.specs.Frames.{size, field_at}
 
 three : (n : ℕ) → 3 + n ≡ suc (suc (suc n))
@@ -23,7 +22,3 @@ after (t ∷ a ∷ b ∷ rest) h l =
     rw (cond-true _ _ _ (le-leb (a * 256 + b) (length rest) l))
     (let n : length (take (a * 256 + b) rest) ≡ a * 256 + b = length-take-le (a * 256 + b) rest l in
     rw (n, three) refl)
-
-pub entry_read : (bs : List ℕ) → 0 < length bs → entry_of bs ≡ Some (entry (get_or bs 0 0) (drop 1 bs))
-entry_read [] h = absurd (omega arith)
-entry_read (e ∷ rest) h = refl

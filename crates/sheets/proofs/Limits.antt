@@ -67,7 +67,7 @@ few_for {w} {head} (one_more fs f acc ok) e lt =
     (cases_Bool (eqb f.tag 5 && eqb (byte f 0) e))
   where
     first_room : (c : List ℕ) → get_or c 0 0 ≡ e → first_is c (λ e. cond (ltb e (byte head 1)) (ltb (entries e fs) 16) true) ≡ true → entries e fs < 16
-    first_room [] is h = absurd (let z : ◌≡◌ {A = ℕ} 0 1 = cc in omega arith)
+    first_room [] is h = absurd cc
     first_room (b ∷ c) is h = ltb-true _ _ (sym (cond-true (ltb e (byte head 1)) (ltb (entries e fs) 16) true (lt-ltb e (byte head 1) lt)) ∙ subst (λ b. cond (ltb b (byte head 1)) (ltb (entries b fs) 16) true ≡ true) is h)
 
 -- how many amounts, each as wide as it should be

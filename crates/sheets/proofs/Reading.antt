@@ -1,25 +1,20 @@
 -- Looking fields up by tag: what is found, and what a checked sheet's fields say. Assumes nothing.
-use Rattle.std.proofs.Common.{◌≡◌, ℕ, zero, suc, ◌+◌, Bool, true, false, cond, ◌&&◌, eqb, leb, ◌⊎◌, List, [], ◌∷◌, ◌++◌, map, length, is_ok, Some, None, Option, sym, refl, ap, ◌∙◌, subst, inl, inr, ⊎_elim, arith}
+use Rattle.std.proofs.Common.{◌≡◌, ℕ, zero, suc, ◌+◌, Bool, true, false, cond, ◌&&◌, eqb, leb, ◌⊎◌, List, [], ◌∷◌, ◌++◌, map, length, is_ok, Some, None, Option, sym, refl, ap, ◌∙◌, subst, inl, inr, ⊎_elim}
 use Rattle.std.specs.Option.{option_map, option_flatten}
-use Rattle.std.specs.List.{slice_get}
+use Rattle.std.specs.List.{slice_get, filter}
+use Rattle.std.proofs.lemmas.List.{length-map}
+use Rattle.std.proofs.lemmas.Option.{slice_get-map}
 use Rattle.std.proofs.lemmas.Bool.{cases_Bool, cond-true, cond-false, and_parts, eqb-true, false≢true}
-use Rattle.sheets.specs.Frames.{Raw, size, fields}
+use Rattle.sheets.specs.Frames.{Raw, size, fields, laid}
 use Rattle.sheets.specs.Fields.{Said, field_of}
 use Rattle.sheets.specs.Grammar.{byte, follows, walk, fault, fits_of, heads_of, belongs_to, highest, lower, room}
 use Rattle.sheets.specs.Reading.{said_at}
 use Rattle.sheets.specs.Refusals.{refused_at, check_of}
 use Rattle.sheets.specs.Sheets.{tagged, placed}
-
-pub nth_map : {X Y : Type 0} (g : X → Y) (xs : List X) (k : ℕ) → slice_get (map g xs) k ≡ option_map g (slice_get xs k)
-nth_map g [] k = refl
-nth_map g (x ∷ xs) zero = refl
-nth_map g (x ∷ xs) (suc k) = nth_map g xs k
+use Rattle.sheets.proofs.Walk.{none_some}
 
 pub some_not_none : {X : Type 0} (x : X) → Some x ≡ None → ⊥
-some_not_none x e = let z : ◌≡◌ {A = ℕ} 0 1 = cc in omega arith
-
-pub none_not_some : {X : Type 0} (x : X) → None ≡ Some x → ⊥
-none_not_some x e = some_not_none x (sym e)
+some_not_none x e = none_some x (sym e)
 
 pub same_some : {X : Type 0} (x y : X) → Some x ≡ Some y → x ≡ y
 same_some x y e = cc
@@ -34,11 +29,19 @@ map_placed t at [] = refl
 map_placed t at (f ∷ fs) =
     map_cond (λ p. p.1) (eqb f.tag t) _ _ ∙ ap (λ l. cond (eqb f.tag t) (f ∷ l) l) (map_placed t (at + size f) fs)
 
+-- those of a tag, among all with their places
+pub filter_laid : (t at : ℕ) (fs : List Raw) → filter (λ p. eqb p.1.tag t) (laid at fs) ≡ placed t at fs
+filter_laid t at [] = refl
+filter_laid t at (f ∷ fs) = ap (λ l. cond (eqb f.tag t) ((at, f) ∷ l) l) (filter_laid t (at + size f) fs)
+
+pub length_placed : (t at : ℕ) (fs : List Raw) → length (placed t at fs) ≡ length (tagged t fs)
+length_placed t at fs = sym (length-map (placed t at fs) (λ p. p.1)) ∙ ap length (map_placed t at fs)
+
 -- what is found is what is said
 pub said_found : (t k : ℕ) (bs : List ℕ) (o : Option (ℕ × Raw)) → o ≡ slice_get (placed t 0 (fields bs)) k → said_at t k bs ≡ option_flatten (option_map field_of (option_map (λ p. p.1) o))
 said_found t k bs o e =
     ap (λ o. option_flatten (option_map field_of o))
-    (ap (λ l. slice_get l k) (sym (map_placed t 0 (fields bs))) ∙ nth_map (λ p. p.1) (placed t 0 (fields bs)) k ∙ ap (option_map (λ p. p.1)) (sym e))
+    (ap (λ l. slice_get l k) (sym (map_placed t 0 (fields bs))) ∙ slice_get-map (λ p. p.1) (placed t 0 (fields bs)) k ∙ ap (option_map (λ p. p.1)) (sym e))
 
 -- it is the first, or one of the others
 pick : (g : Raw) (gs : List Raw) (k : ℕ) (f : Raw) → slice_get (g ∷ gs) k ≡ Some f → (g ≡ f) ⊎ ((j : ℕ) × (slice_get gs j ≡ Some f))
@@ -47,7 +50,7 @@ pick g gs (suc k) f e = inr (k, e)
 
 -- what is found under a tag has it
 pub tag_at : (t : ℕ) (fs : List Raw) (k : ℕ) (f : Raw) → slice_get (tagged t fs) k ≡ Some f → f.tag ≡ t
-tag_at t [] k f e = absurd (none_not_some f e)
+tag_at t [] k f e = absurd (none_some f e)
 tag_at t (g ∷ gs) k f e =
     ⊎_elim
     (λ same.
@@ -63,7 +66,7 @@ abbrev Fit : ℕ → Raw → ℕ → Raw → Type 0
 Fit w head t f = (belongs_to (byte head 0) t ≡ true) × (fits_of w (byte head 2) t (length f.content) ≡ true)
 
 walked : (w : ℕ) (head : Raw) (before : List Raw) (at : ℕ) (fs : List Raw) → walk w head before at fs ≡ None → (t k : ℕ) (f : Raw) → slice_get (tagged t fs) k ≡ Some f → Fit w head t f
-walked w head before at [] e t k f is = absurd (none_not_some f is)
+walked w head before at [] e t k f is = absurd (none_some f is)
 walked w head before at (g ∷ gs) e t k f is =
     ⊎_elim
     (λ ok.

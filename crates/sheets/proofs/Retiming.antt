@@ -58,7 +58,7 @@ rest_of [] = []
 rest_of (f ∷ fs) = fs
 
 first_split : {bs : List ℕ} {fs : List Raw} → Splits bs fs → (f : Raw) (gs : List Raw) → fs ≡ f ∷ gs → First bs f gs
-first_split none f gs e = absurd (let z : ◌≡◌ {A = ℕ} 0 1 = cc in omega arith)
+first_split none f gs e = absurd cc
 first_split (more t h l content rest fs n s) f gs e =
     let here : record { tag = t; content = content } ≡ f = ap (λ l. first_of l) e in
     let later : fs ≡ gs = ap rest_of e in

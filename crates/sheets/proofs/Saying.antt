@@ -3,6 +3,7 @@ use Rattle.std.proofs.Common.{◌≡◌, ℕ, zero, suc, ◌+◌, ◌≤◌, tru
 use Rattle.std.specs.Option.{option_map, option_flatten}
 use Rattle.std.specs.List.{slice_get}
 use Rattle.std.proofs.lemmas.List.{length-map}
+use Rattle.std.proofs.lemmas.Option.{slice_get-map}
 use Rattle.std.proofs.lemmas.Bool.{cases_eq, cond-true, and_parts, eqb-true, leb-true, le-ltb, false≢true}
 use Rattle.sheets.specs.Frames.{Raw, fields}
 use Rattle.sheets.specs.Fields.{field_of, kind_of, number_of, end_of, interface_of, transition_of, entry_of, instance_of, connection_of}
@@ -13,7 +14,7 @@ use Rattle.sheets.specs.Sheets.{tagged, placed, first_of, sheet_of, count_of, ta
 use Rattle.sheets.specs.declared.words.Kind.TheVariants.{Basic}
 use Rattle.sheets.specs.declared.words.Item.{Item}
 use Rattle.sheets.specs.declared.words.Item.TheVariants.{State, Transition, Entry, Instance, Connection}
-use Rattle.sheets.proofs.Reading.{nth_map, map_placed, tag_at, no_fault, Headed, headed, fitting, read_as}
+use Rattle.sheets.proofs.Reading.{map_placed, tag_at, no_fault, Headed, headed, fitting, read_as}
 
 transition_read : (f : Raw) → f.tag ≡ 4 → length f.content ≡ 3 → as_transition (field_of f) ≡ Some (transition_at f)
 transition_read f e n = rw e (three f.content n) where
@@ -85,28 +86,28 @@ module _ (w : ℕ) (bs : List ℕ) (ok : is_ok (check_of w bs) ≡ true) where
   transitions_read k =
       read_as as_transition transition_at refl (slice_get (tagged 4 (fields bs)) k)
       (λ f is. transition_read f (tag_at 4 (fields bs) k f is) (eqb-true _ _ (fitting w (fields bs) sound 4 (λ e. omega arith) k f is)))
-      ∙ sym (nth_map transition_at (tagged 4 (fields bs)) k)
+      ∙ sym (slice_get-map transition_at (tagged 4 (fields bs)) k)
 
   pub entries_read : (k : ℕ) → as_entry w (said_at 5 k bs) ≡ slice_get (sheet_of w bs).entries k
   unfolding sheet_of
   entries_read k =
       read_as (as_entry w) (served_at w) refl (slice_get (tagged 5 (fields bs)) k)
       (λ f is. entry_read w (byte sound.head 2) f (tag_at 5 (fields bs) k f is) (eqb-true _ _ (fitting w (fields bs) sound 5 (λ e. omega arith) k f is)))
-      ∙ sym (nth_map (served_at w) (tagged 5 (fields bs)) k)
+      ∙ sym (slice_get-map (served_at w) (tagged 5 (fields bs)) k)
 
   pub instances_read : (k : ℕ) → as_instance (said_at 6 k bs) ≡ slice_get (sheet_of w bs).instances k
   unfolding sheet_of
   instances_read k =
       read_as as_instance (λ f. byte f 0) refl (slice_get (tagged 6 (fields bs)) k)
       (λ f is. instance_read f (tag_at 6 (fields bs) k f is) (eqb-true _ _ (fitting w (fields bs) sound 6 (λ e. omega arith) k f is)))
-      ∙ sym (nth_map (λ f. byte f 0) (tagged 6 (fields bs)) k)
+      ∙ sym (slice_get-map (λ f. byte f 0) (tagged 6 (fields bs)) k)
 
   pub connections_read : (k : ℕ) → as_connection (said_at 7 k bs) ≡ slice_get (sheet_of w bs).connections k
   unfolding sheet_of
   connections_read k =
       read_as as_connection connection_at refl (slice_get (tagged 7 (fields bs)) k)
       (λ f is. connection_read f (tag_at 7 (fields bs) k f is) (eqb-true _ _ (fitting w (fields bs) sound 7 (λ e. omega arith) k f is)))
-      ∙ sym (nth_map connection_at (tagged 7 (fields bs)) k)
+      ∙ sym (slice_get-map connection_at (tagged 7 (fields bs)) k)
 
 -- the content of the amounts' field, empty where there is none
 pub amounts_content : (bs : List ℕ) → as_amounts (said_at 2 0 bs) ≡ (first_of (tagged 2 (fields bs))).content
@@ -141,4 +142,4 @@ length_offsets w i bs =
 
 pub offsets_read : (i : Item) (bs : List ℕ) (k : ℕ) (o : Option (ℕ × Raw)) → o ≡ slice_get (placed (tag_of i) 0 (fields bs)) k → option_map (λ p. p.0) o ≡ slice_get (offsets_of i bs) k
 unfolding offsets_of
-offsets_read i bs k o e = ap (option_map (λ p. p.0)) e ∙ sym (nth_map (λ p. p.0) (placed (tag_of i) 0 (fields bs)) k)
+offsets_read i bs k o e = ap (option_map (λ p. p.0)) e ∙ sym (slice_get-map (λ p. p.0) (placed (tag_of i) 0 (fields bs)) k)

@@ -1,6 +1,8 @@
 pub mod Frames
 pub mod Parts
+pub mod Places
 pub mod Fields
+pub mod Tags
 pub mod Grammar
 pub mod Seen
 pub mod Refusals

@@ -1,14 +1,15 @@
 // Opened and checked sheets. Checks go by reference and may refuse; the makings cannot.
-ghost use Rattle.std.specs.Prelude.{◌≡◌, true, is_ok};
+ghost use Rattle.std.specs.Prelude.{◌≡◌, true, is_ok, IfOk, OnOk};
+ghost use Rattle.std.specs.Result.{result_map_both};
 ghost use Rattle.sheets.specs.Form.{Form};
 ghost use Rattle.sheets.specs.Sheets.{sheet_of};
 ghost use Rattle.sheets.specs.Lawful.{Grammatical};
 ghost use Rattle.sheets.specs.Split.{Framing};
-ghost use Rattle.sheets.specs.Refusals.{framing_of, check_of};
+ghost use Rattle.sheets.specs.Refusals.{framing_of, check_of, both_of};
 
-use crate::grammar::Seen;
-use crate::part::first;
+use crate::fields::Fields;
 use crate::refusal::Refusal;
+use crate::seen::Seen;
 use crate::width::Width;
 
 // Check 1: the first field that runs past the end is refused.
@@ -16,16 +17,11 @@ pub fn framing(bytes: &[u8]) -> Result<(), Refusal>
     ensures value { result ≡ framing_of bytes.now }
     ensures means { Framing bytes.now result }
 {
-    let mut rest = bytes;
-    let mut at: usize = 0;
-    while let Some((part, after)) = first(rest) {
-        at += 3 + part.content.len();
-        rest = after;
-    }
-    if at == bytes.len() {
+    let end = Fields::of(bytes).last().map_or(0, |field| field.end);
+    if end == bytes.len() {
         Ok(())
     } else {
-        Err(Refusal::Cut { at })
+        Err(Refusal::Cut { at: end })
     }
 }
 
@@ -33,27 +29,22 @@ pub fn framing(bytes: &[u8]) -> Result<(), Refusal>
 fn grammar(bytes: &[u8], width: Width) -> Result<(), Refusal>
     ensures { result ≡ check_of width.bytes bytes.now }
 {
-    let Some((head, tail)) = first(bytes) else {
-        return Err(Refusal::Grammar { at: 0 });
-    };
-    let Some(start) = Seen::start(head) else {
-        return Err(Refusal::Grammar { at: 0 });
-    };
-    let mut seen = start;
-    let mut rest = tail;
-    let mut at: usize = 6;
-    while let Some((part, after)) = first(rest) {
-        if !seen.allows(width, part) {
-            return Err(Refusal::Grammar { at });
+    let mut fields = Fields::of(bytes);
+    let mut seen = fields
+        .next()
+        .and_then(|head| Seen::start(head.part))
+        .ok_or(Refusal::Grammar { at: 0 })?;
+    let mut end = 6;
+    for field in fields {
+        if !seen.follow(width, field.part) {
+            return Err(Refusal::Grammar { at: field.at });
         }
-        seen.note(part);
-        at += 3 + part.content.len();
-        rest = after;
+        end = field.end;
     }
     if seen.complete() {
         Ok(())
     } else {
-        Err(Refusal::Grammar { at })
+        Err(Refusal::Grammar { at: end })
     }
 }
 
@@ -100,4 +91,19 @@ pub struct Checked<'a> {
     pub(crate) width: Width,
     ghost framed: { is_ok (framing_of bytes.now) ≡ true },
     ghost right: { is_ok (check_of width.bytes bytes.now) ≡ true },
+}
+
+impl<'a> Checked<'a> {
+    // Both checks and both makings: the checked sheet, or what the first check that refuses says.
+    pub fn read(bytes: &'a [u8], width: Width) -> Result<Checked<'a>, Refusal>
+        ensures value { result_map_both (λ _. tt) (λ e. e) result ≡ both_of width.bytes bytes.now }
+        ensures bytes { IfOk result (λ s. s.bytes.now ≡ bytes.now) }
+        ensures width { IfOk result (λ s. s.width ≡ width) }
+        ensures form { OnOk result (Form width.bytes (sheet_of width.bytes bytes.now)) }
+    {
+        framing(bytes)?;
+        let opened = Opened::new(bytes);
+        opened.check(width)?;
+        Ok(opened.into_checked(width))
+    }
 }
