@@ -1,7 +1,7 @@
 // The order in which the nodes of a graph are worked, and its circles.
 #![tactic(auto)]
 
-ghost use Rattle.std.specs.Prelude.{◌≡◌, ℕ, ◌<◌, ◌≤◌, true, false, length, take, Decides, MatchOption, MatchResult, slice_index, slice_index_or};
+ghost use Rattle.std.specs.Prelude.{◌≡◌, ℕ, ◌<◌, ◌≤◌, true, false, length, take, Decides, IsTrue, MatchOption, MatchResult, slice_index, slice_index_or};
 ghost use Rattle.std.specs.List.{ContainsAt as Has};
 ghost use Rattle.order.specs.Order.{Next, Stuck, Order, Planned, Unworkable, Marked, Ready, Barred, MarksOf, Below};
 ghost use Rattle.order.specs.Ways.{NoCircle, Endless};
@@ -35,40 +35,35 @@ fn is_left<G: Graph>(graph: &G, k: usize, marks: &[bool]) -> bool
     graph.is_node(k) && !marks[k]
 }
 
+// Whether k is an unmarked node whose ways all lead to marked ones; an unmarked one that is not has a way to another.
+fn is_ready<G: Graph>(graph: &G, k: usize, marks: &[bool]) -> bool
+    requires within { k < length marks.now }
+    requires marks { length marks.now ≡ G.nodes graph.now }
+    ensures ready { IsTrue result → G.node graph.now k × (Marked marks.now k → ⊥) × Ready (G.leads graph.now) (Marked marks.now) k }
+    ensures barred { result ≡ false → G.node graph.now k → (Marked marks.now k → ⊥) → (d : ℕ) × Barred (Below (G.nodes graph.now) (G.node graph.now)) (G.leads graph.now) (Marked marks.now) k d }
+{
+    is_left(graph, k, marks) && graph.barred(k, marks).is_none()
+}
+
 // The next node to work.
 fn next_node<G: Graph>(graph: &G, marks: &[bool]) -> Option<usize>
     requires { length marks.now ≡ G.nodes graph.now }
     ensures { MatchOption result (Stuck (Below (G.nodes graph.now) (G.node graph.now)) (G.leads graph.now) (Marked marks.now)) (Next (Below (G.nodes graph.now) (G.node graph.now)) (G.leads graph.now) (Marked marks.now)) }
 {
-    for s in 0..marks.len() {
-        if is_left(graph, s, marks) {
-            match graph.barred(s, marks) {
-                None => return Some(s),
-                Some(_) => {}
-            }
-        }
-    }
-    None
-}
-
-// Takes every mark away.
-fn clear(marks: &mut [bool])
-    ensures { (t : ℕ) → slice_index_or marks.new t false ≡ false }
-{
-    for m in marks.iter_mut() {
-        *m = false;
-    }
+    (0..marks.len()).find(|k| is_ready(graph, *k, marks))
 }
 
 // Marks the nodes that can be worked, writes them in working order, and answers how many there are.
 fn working_order<G: Graph>(graph: &G, marks: &mut [bool], order: &mut [usize]) -> usize
-    requires { (length marks.old ≡ G.nodes graph.now) × ((((t : ℕ) → slice_index_or marks.old t false ≡ false)) × (length marks.old ≤ length order.old)) }
+    requires { (length marks.old ≡ G.nodes graph.now) × (length marks.old ≤ length order.old) }
     ensures within { result ≤ length order.new }
     ensures order { Order (Below (G.nodes graph.now) (G.node graph.now)) (G.leads graph.now) (take result order.new) }
     ensures marks { MarksOf marks.new (take result order.new) }
     ensures none { Stuck (Below (G.nodes graph.now) (G.node graph.now)) (G.leads graph.now) (Has (take result order.new)) }
 {
+    marks.fill(false);
     let mut k = 0;
+    // each turn asks with the marks that the turn before it wrote, so this is no chain
     while let Some(s) = next_node(graph, marks) {
         marks[s] = true;
         order[k] = s;
@@ -82,12 +77,7 @@ fn lowest_unmarked<G: Graph>(graph: &G, marks: &[bool]) -> Option<usize>
     requires { length marks.now ≡ G.nodes graph.now }
     ensures { MatchOption result ((t : ℕ) → Below (G.nodes graph.now) (G.node graph.now) t → Marked marks.now t) (λ s. Below (G.nodes graph.now) (G.node graph.now) s × ((Marked marks.now s → ⊥) × ((t : ℕ) → t < s → Below (G.nodes graph.now) (G.node graph.now) t → Marked marks.now t))) }
 {
-    for t in 0..marks.len() {
-        if is_left(graph, t, marks) {
-            return Some(t);
-        }
-    }
-    None
+    (0..marks.len()).find(|t| is_left(graph, *t, marks))
 }
 
 // The working order of all nodes, in the first rows of `order`, and how many they are; or the lowest node that cannot be worked.
@@ -99,7 +89,6 @@ pub fn plan<G: Graph>(graph: &G, marks: &mut [bool], order: &mut [usize]) -> Res
     ensures order { MatchResult result (Planned (Below (G.nodes graph.now) (G.node graph.now)) (G.leads graph.now) order.new) (Unworkable (Below (G.nodes graph.now) (G.node graph.now)) (G.leads graph.now)) }
     ensures circles { MatchResult result (λ _. NoCircle (Below (G.nodes graph.now) (G.node graph.now)) (G.leads graph.now)) (Endless (G.leads graph.now)) }
 {
-    clear(marks);
     let count = working_order(graph, marks, order);
     match lowest_unmarked(graph, marks) {
         Some(s) => Err(s),
@@ -131,10 +120,7 @@ mod tests {
 
         fn barred(&self, k: usize, marks: &[bool]) -> Option<usize> {
             let d = self.next[k];
-            if d < 6 && self.here[d] && !marks[d] {
-                return Some(d);
-            }
-            None
+            (d < 6 && self.here[d] && !marks[d]).then_some(d)
         }
     }
 
@@ -146,14 +132,8 @@ mod tests {
         };
         let mut marks = [true; 6];
         let mut order = [9; 6];
-        match plan(&graph, &mut marks, &mut order) {
-            Ok(n) => assert_eq!(rt; n, 4),
-            Err(_) => assert!(rt; false),
-        }
-        assert_eq!(rt; order[0], 4);
-        assert_eq!(rt; order[1], 1);
-        assert_eq!(rt; order[2], 0);
-        assert_eq!(rt; order[3], 3);
+        assert_eq!(rt; plan(&graph, &mut marks, &mut order), Ok(4));
+        assert_eq!(rt; order.first_chunk(), Some(&[4, 1, 0, 3]));
     }
 
     #[test]
@@ -164,9 +144,6 @@ mod tests {
         };
         let mut marks = [false; 6];
         let mut order = [9; 6];
-        match plan(&graph, &mut marks, &mut order) {
-            Ok(_) => assert!(rt; false),
-            Err(s) => assert_eq!(rt; s, 1),
-        }
+        assert_eq!(rt; plan(&graph, &mut marks, &mut order), Err(1));
     }
 }
