@@ -1,19 +1,10 @@
--- `any`, by a loop, by elements, and over two lists. Assumes nothing.
-use Rattle.std.specs.Prelude.{◌≡◌, ℕ, zero, suc, ◌+◌, ◌<◌, Bool, true, false, ◌&&◌, ◌||◌, List, [], ◌∷◌, ◌++◌, length, take, slice_index_or, refl}
-use Rattle.std.proofs.Common.{◌∙◌, sym, ap, inl, inr, ⊎_elim, arith}
-use Rattle.std.specs.List.{AllByRecursion}
-use Rattle.std.proofs.lemmas.List.{take_more}
+-- `any`, by elements and over two lists. Assumes nothing.
+use Rattle.std.specs.Prelude.{◌≡◌, Bool, true, false, ◌||◌, List, [], ◌∷◌, ◌++◌, refl}
+use Rattle.std.proofs.Common.{◌∙◌, sym, ap, inl, inr, ⊎_elim}
+use Rattle.std.specs.List.{AllByRecursion, list_any as any}
+use Rattle.std.proofs.lemmas.List.Folds.{list_any-append}
 use Rattle.std.proofs.lemmas.Bool.{or_left, or_right, or_from, or_parts, cases_Bool, both_ways}
 use Rattle.costs.specs.Lists.{Among}
-use Rattle.costs.specs.Reducers.{any}
-
-pub and_true : (b : Bool) → (b && true) ≡ b
-and_true true = refl
-and_true false = refl
-
-or_assoc : (a b c : Bool) → ((a || b) || c) ≡ (a || (b || c))
-or_assoc true b c = refl
-or_assoc false b c = refl
 
 or_swap : (a b c d : Bool) → ((a || b) || (c || d)) ≡ ((a || c) || (b || d))
 or_swap true b c d = refl
@@ -22,10 +13,6 @@ or_swap false true false d = refl
 or_swap false false c d = refl
 
 module _ {X : Type 0} where
-  pub any_append : (p : X → Bool) (xs ys : List X) → any p (xs ++ ys) ≡ (any p xs || any p ys)
-  any_append p [] ys = refl
-  any_append p (x ∷ xs) ys = ap (λ b. p x || b) (any_append p xs ys) ∙ sym (or_assoc (p x) (any p xs) (any p ys))
-
   pub any_or : (p q : X → Bool) (xs : List X) → any (λ x. p x || q x) xs ≡ (any p xs || any q xs)
   any_or p q [] = refl
   any_or p q (x ∷ xs) = ap (λ b. (p x || q x) || b) (any_or p q xs) ∙ or_swap (p x) (q x) (any p xs) (any q xs)
@@ -35,17 +22,7 @@ module _ {X : Type 0} where
   any_same p q h (x ∷ xs) = ap (λ b. b || any p xs) (h x) ∙ ap (λ b. q x || b) (any_same p q h xs)
 
   pub any_push : (p : X → Bool) (xs : List X) (x : X) → any p xs ≡ false → p x ≡ false → any p (xs ++ x ∷ []) ≡ false
-  any_push p xs x e h = any_append p xs (x ∷ []) ∙ or_from _ _ e (or_from _ _ h refl)
-
-  -- a turn of a loop that finds nothing
-  pub any_more : (p : X → Bool) (xs : List X) (i : ℕ) (x : X) → i < length xs → x ≡ slice_index_or xs i x → any p (take i xs) ≡ false → p x ≡ false → any p (take (i + 1) xs) ≡ false
-  any_more p xs i x l r e h =
-      ap (any p) (take_more xs i x l ∙ ap (λ y. take i xs ++ y ∷ []) (sym r)) ∙ any_push p (take i xs) x e h
-
-  pub any_found : (p : X → Bool) (xs : List X) (i : ℕ) (x : X) → i < length xs → x ≡ slice_index_or xs i x → p x ≡ true → any p xs ≡ true
-  any_found p [] i x l r h = absurd (omega arith)
-  any_found p (y ∷ ys) zero x l r h = or_left _ _ (ap p (sym r) ∙ h)
-  any_found p (y ∷ ys) (suc i) x l r h = or_right (p y) _ (any_found p ys i x (omega arith) r h)
+  any_push p xs x e h = list_any-append p xs (x ∷ []) ∙ or_from _ _ e (or_from _ _ h refl)
 
   pub any_none : (p : X → Bool) (xs : List X) → AllByRecursion (λ x. p x ≡ false) xs → any p xs ≡ false
   any_none p [] h = refl

@@ -1,11 +1,11 @@
 -- Counts output by output, and the laws that follow. Assumes nothing.
-use Rattle.std.specs.Prelude.{◌≡◌, ℕ, zero, suc, ◌+◌, ◌<◌, ◌≤◌, min, max, Bool, true, false, ◌&&◌, List, [], ◌∷◌, ◌++◌, length, take, replicate, ◌≢◌, nat_le, slice_index, refl}
+use Rattle.std.specs.Prelude.{◌≡◌, ℕ, zero, suc, ◌+◌, ◌<◌, ◌≤◌, min, max, true, ◌&&◌, List, [], ◌∷◌, ◌++◌, length, take, replicate, ◌≢◌, nat_le, slice_index, refl}
 use Rattle.std.proofs.Common.{◌∙◌, sym, ap, arith}
 use Rattle.std.proofs.lemmas.Bool.{and_parts, and_from, leb-true, le-leb}
 use Rattle.costs.specs.Amounts.{Lawful}
-use Rattle.costs.specs.Entries.{first_counts, zipped, none_lower, count_sum, counts_of, no_counts, one_count, counts_ops}
+use Rattle.costs.specs.Entries.{first_counts, zipped, Fits, counts_by, none_lower, count_sum, counts_of, no_counts, one_count, counts_ops}
 use Rattle.costs.specs.declared.counts.Counts.{Counts}
-use Rattle.costs.specs.AnyLaws.{and_true}
+use Rattle.std.proofs.Math.Bool.{and-true, and_assoc}
 use Rattle.costs.specs.Same.{same_counts}
 
 get_or_first_counts : (n : ℕ) (bs : List ℕ) (k : ℕ) → k < n → slice_index (first_counts n bs) k ≡ min (slice_index bs k) 255
@@ -21,10 +21,6 @@ get_or_zipped f (x ∷ xs) [] k p q = absurd (omega arith)
 get_or_zipped f (x ∷ xs) (y ∷ ys) zero p q = refl
 get_or_zipped f (x ∷ xs) (y ∷ ys) (suc k) p q = get_or_zipped f xs ys k (omega arith) (omega arith)
 
-and_assoc : (a b c : Bool) → ((a && b) && c) ≡ (a && (b && c))
-and_assoc true b c = refl
-and_assoc false b c = refl
-
 lower_none : (xs ys : List ℕ) → none_lower xs ys ≡ true → (k : ℕ) → k < length xs → k < length ys → slice_index ys k ≤ slice_index xs k
 lower_none [] ys e k p q = absurd (omega arith)
 lower_none (x ∷ xs) [] e k p q = absurd (omega arith)
@@ -39,7 +35,7 @@ none_lower_from (x ∷ xs) (y ∷ ys) h = and_from _ _ (le-leb y x (h 0 (omega a
 none_lower_suc : (xs ys : List ℕ) (i : ℕ) → i < length xs → i < length ys → none_lower (take (suc i) xs) (take (suc i) ys) ≡ (none_lower (take i xs) (take i ys) && nat_le (slice_index ys i) (slice_index xs i))
 none_lower_suc [] ys i p q = absurd (omega arith)
 none_lower_suc (x ∷ xs) [] i p q = absurd (omega arith)
-none_lower_suc (x ∷ xs) (y ∷ ys) zero p q = and_true (nat_le y x)
+none_lower_suc (x ∷ xs) (y ∷ ys) zero p q = and-true (nat_le y x)
 none_lower_suc (x ∷ xs) (y ∷ ys) (suc i) p q = ap (λ b. nat_le y x && b) (none_lower_suc xs ys i (omega arith) (omega arith)) ∙ sym (and_assoc (nat_le y x) (none_lower (take i xs) (take i ys)) (nat_le (slice_index ys i) (slice_index xs i)))
 
 -- one more is compared
@@ -49,6 +45,9 @@ none_lower_more xs ys i p q = let next : i + 1 ≡ suc i = omega arith in ap (λ
 -- at each of the eight outputs
 pub counts_by_at : (f : ℕ → ℕ → ℕ) (a b : Counts) (k : ℕ) → k < 8 → slice_index (zipped f a.at b.at) k ≡ f (slice_index a.at k) (slice_index b.at k)
 counts_by_at f a b k l = get_or_zipped f a.at b.at k (omega arith) (omega arith)
+
+pub counts_by_from : (f : ℕ → ℕ → ℕ) (h : Fits f) (a b c : Counts) → ((k : ℕ) → k < 8 → slice_index c.at k ≡ f (slice_index a.at k) (slice_index b.at k)) → c ≡ counts_by f h a b
+counts_by_from f h a b c each = same_counts _ _ (λ k l. each k l ∙ sym (counts_by_at f a b k l))
 
 pub counts_of_at : (bs : List ℕ) (k : ℕ) → k < 8 → slice_index (counts_of bs).at k ≡ min (slice_index bs k) 255
 counts_of_at bs k l = get_or_first_counts 8 bs k l

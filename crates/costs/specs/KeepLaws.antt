@@ -3,15 +3,17 @@ use Rattle.std.specs.Prelude.{◌≡◌, ℕ, ◌+◌, ◌<◌, ◌≤◌, Bool,
 use Rattle.std.proofs.Common.{◌∙◌, arith}
 use Rattle.std.proofs.Math.Path.{sym, ap, subst, refl}
 use Rattle.std.proofs.Math.Logic.{inl, inr, ⊎_elim}
-use Rattle.std.specs.List.{AllByRecursion}
+use Rattle.std.specs.List.{AllByRecursion, list_any as any}
 use Rattle.std.proofs.lemmas.List.{append-nil, append_assoc, length-append, length-take, length-drop, take_more, take_more_set, take-append-le, drop-set-lt}
+use Rattle.std.proofs.lemmas.List.Folds.{list_any-append}
 use Rattle.std.proofs.lemmas.Slice.{drop-append-drop}
+use Rattle.std.proofs.Math.Bool.{and-true}
 use Rattle.std.proofs.lemmas.Bool.{and_left, and_right, and_from, and_parts, not_from_true, not_from_false, not-true, cases_Bool, both_ways, cond_both}
 use Rattle.costs.specs.Amounts.{Amounts, Lawful}
 use Rattle.costs.specs.Entries.{entry_ops}
 use Rattle.costs.specs.Lists.{Among, CoveredBy, Meaning, Selects, By, Sound}
-use Rattle.costs.specs.Reducers.{any, beats, equal, stays, kept_after, kept}
-use Rattle.costs.specs.AnyLaws.{any_append, any_or, any_same, any_push, any_none, any_not, any_has, any_at, and_true}
+use Rattle.costs.specs.Reducers.{beats, equal, stays, kept_after, kept}
+use Rattle.costs.specs.AnyLaws.{any_or, any_same, any_push, any_none, any_not, any_has, any_at}
 use Rattle.costs.specs.EntryLaws.{entry_lawful}
 use Rattle.costs.specs.ListLaws.{merged_covers, covered_some}
 use Rattle.costs.specs.Members.{one_among, all_among}
@@ -88,13 +90,13 @@ module _ {X : Type 0} (ops : Amounts X) where
   stays_parted earlier later x =
       let B : X → Bool = λ y. beats ops y x in
       let E : X → Bool = λ y. equal ops y x in
-      let whole : any B (earlier ++ x ∷ later) ≡ (any B earlier || (false || any B later)) = any_append B earlier (x ∷ later) ∙ ap (λ b. any B earlier || (b || any B later)) (beats_not x) in
+      let whole : any B (earlier ++ x ∷ later) ≡ (any B earlier || (false || any B later)) = list_any-append B earlier (x ∷ later) ∙ ap (λ b. any B earlier || (b || any B later)) (beats_not x) in
       let covered : any (λ y. ops.covers y x) earlier ≡ (any B earlier || any E earlier) = sym (any_same _ _ (λ y. either (ops.covers y x) (ops.covers x y)) earlier) ∙ any_or B E earlier in
       ap (λ b. not b && not (any E earlier)) whole ∙ regroup (any B earlier) (any E earlier) (any B later) ∙ ap (λ b. not b && not (any B later)) (sym covered)
 
   -- the last one stays where none before covers it
   last_stays : (xs : List X) (x : X) → stays ops (xs ++ x ∷ []) xs x ≡ not (any (λ y. ops.covers y x) xs)
-  last_stays xs x = stays_parted xs [] x ∙ and_true (not (any (λ y. ops.covers y x) xs))
+  last_stays xs x = stays_parted xs [] x ∙ and-true (not (any (λ y. ops.covers y x) xs))
 
   -- with one more in the whole list, those stay that it does not beat
   kept_whole_more : (whole earlier rest : List X) (x : X) → kept_after ops (whole ++ x ∷ []) earlier rest ≡ filter (λ y. not (beats ops x y)) (kept_after ops whole earlier rest)
@@ -102,7 +104,7 @@ module _ {X : Type 0} (ops : Amounts X) where
   kept_whole_more whole earlier (y ∷ ys) x =
       let k = kept_after ops whole (earlier ++ y ∷ []) ys in
       ap (λ r. cond (stays ops (whole ++ x ∷ []) earlier y) (y ∷ r) r) (kept_whole_more whole (earlier ++ y ∷ []) ys x)
-      ∙ ap (λ b. cond (not b && not (any (λ z. equal ops z y) earlier)) (y ∷ filter (λ z. not (beats ops x z)) k) (filter (λ z. not (beats ops x z)) k)) (any_append (λ z. beats ops z y) whole (x ∷ []))
+      ∙ ap (λ b. cond (not b && not (any (λ z. equal ops z y) earlier)) (y ∷ filter (λ z. not (beats ops x z)) k) (filter (λ z. not (beats ops x z)) k)) (list_any-append (λ z. beats ops z y) whole (x ∷ []))
       ∙ pick (λ z. not (beats ops x z)) (any (λ z. beats ops z y) whole) (beats ops x y) (any (λ z. equal ops z y) earlier) y k refl
 
   -- the last of those that cover what came before: none of the list beats it

@@ -1,12 +1,8 @@
 -- How keep and merge reduce a list. Opened by the worked cases alone. Assumes nothing.
-use Rattle.std.specs.Prelude.{Bool, false, cond, not, ◌&&◌, ◌||◌, List, [], ◌∷◌, ◌++◌}
+use Rattle.std.specs.Prelude.{Bool, cond, not, ◌&&◌, List, [], ◌∷◌, ◌++◌}
+use Rattle.std.specs.List.{list_any as any}
 use Rattle.costs.specs.Amounts.{Amounts}
 use Rattle.costs.specs.Lists.{merged}
-
--- some element passes
-abbrev pub any : {X : Type 0} → (X → Bool) → List X → Bool
-any p [] = false
-any p (x ∷ xs) = p x || any p xs
 
 module _ {X : Type 0} (ops : Amounts X) where
   -- x covers y and is different from it

@@ -1,8 +1,9 @@
 // What is done with counts: made, read, added, compared and raised, output by output.
-ghost use Rattle.std.specs.Prelude.{◌≡◌, ◌<◌, slice_index};
+ghost use Rattle.std.specs.Prelude.{◌≡◌, ℕ, ◌<◌, slice_index};
 ghost use Rattle.costs.specs.Entries.{counts_ops, counts_of, no_counts, one_count};
 
 use crate::counts::Counts;
+use std::array;
 
 impl Counts {
     pub(crate) fn zero() -> Counts
@@ -16,57 +17,53 @@ impl Counts {
         requires { p < 8 }
         ensures { result ≡ one_count p }
     {
-        let mut at = [0; 8];
-        at[p] = 1;
-        Counts { at }
+        Counts {
+            at: array::from_fn(|o| u8::from(o == p)),
+        }
     }
 
     // One count for each output, from up to eight bytes: missing ones are zero, bytes past the eighth are not read.
     pub fn read(bytes: &[u8]) -> Counts
         ensures { result ≡ counts_of bytes.now }
     {
-        let mut at = [0; 8];
-        for i in 0..bytes.len().min(8) {
-            at[i] = bytes[i];
+        Counts {
+            at: array::from_fn(|o| bytes.get(o).copied().unwrap_or(0)),
         }
-        Counts { at }
     }
 
     // How often output o is counted; outputs past the eighth are not.
     pub fn count(self, o: usize) -> u8
         ensures { result ≡ slice_index self.at o }
     {
-        if o < 8 { self.at[o] } else { 0 }
+        self.at.get(o).copied().unwrap_or(0)
+    }
+
+    // What f makes of the two counts of each output.
+    fn by<F: Fn(u8, u8) -> u8>(self, other: Counts, f: F) -> Counts
+        requires { F.IsAlwaysCallable f }
+        ensures { (k : ℕ) → k < 8 → F.post f (slice_index self.at k) (slice_index other.at k) (slice_index result.at k) }
+    {
+        Counts {
+            at: array::from_fn(|o| f(self.at[o], other.at[o])),
+        }
     }
 
     pub(crate) fn sum(self, other: Counts) -> Counts
         ensures { result ≡ counts_ops.plus self other }
     {
-        let mut at = self.at;
-        for i in 0..8 {
-            at[i] = at[i].saturating_add(other.at[i]);
-        }
-        Counts { at }
+        self.by(other, u8::saturating_add)
     }
 
-    // All eight are compared, with no branch between them, so that the processor compares them at once.
+    // Whether no count is lower.
     pub(crate) fn covers(self, other: Counts) -> bool
         ensures { result ≡ counts_ops.covers self other }
     {
-        let mut all = true;
-        for i in 0..8 {
-            all &= self.at[i] >= other.at[i];
-        }
-        all
+        self.at.iter().zip(&other.at).all(|(a, b)| *a >= *b)
     }
 
     pub(crate) fn higher(self, other: Counts) -> Counts
         ensures { result ≡ counts_ops.higher self other }
     {
-        let mut at = self.at;
-        for i in 0..8 {
-            at[i] = at[i].max(other.at[i]);
-        }
-        Counts { at }
+        self.by(other, u8::max)
     }
 }

@@ -12,14 +12,11 @@ use crate::reducer::Reducer;
 pub struct Merge;
 
 // The highest amount, and the greatest count of each output.
+#[tactic(auto, unfolding(crate::specs::Lists::merged))]
 fn highest<M: Measure>(rows: &[Entry<M>]) -> Entry<M>
     ensures { result ≡ merged (entry_ops M.Measure.ops) rows.now }
 {
-    let mut top = Entry::zero();
-    for x in rows {
-        top = top.higher(*x);
-    }
-    top
+    rows.iter().fold(Entry::zero(), |top, x| top.higher(*x))
 }
 
 impl<M: Measure> Reducer<M> for Merge {

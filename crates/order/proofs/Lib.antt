@@ -3,3 +3,4 @@ pub mod Orders
 pub mod Induction
 pub mod Ways
 pub mod Circles
+mod Found

@@ -1,5 +1,5 @@
 -- The working order, one node more at a time. Assumes nothing.
-use Rattle.std.proofs.Common.{◌≡◌, ℕ, zero, suc, ◌+◌, ◌<◌, Bool, true, false, List, [], ◌∷◌, ◌++◌, length, get_or, take, set, sym, refl, ap, ◌∙◌, subst, ⊎_elim, arith}
+use Rattle.std.proofs.Common.{◌≡◌, ℕ, zero, suc, ◌+◌, ◌<◌, Bool, true, false, List, [], ◌∷◌, ◌++◌, length, get_or, take, set, replicate, sym, refl, ap, ◌∙◌, subst, ⊎_elim, arith}
 use borrow.Author.Tests.{clash}
 use Rattle.std.specs.List.{ContainsAt as Has}
 use Rattle.std.proofs.ByRecursion.{has_append_left, has_push, has_push_cases}
@@ -23,6 +23,9 @@ module _ (Node : ℕ → Type 0) (leads : ℕ → ℕ → Type 0) where
     stuck_same h t node un =
         let b = h t node (λ w. un (to t w)) in
         (b.0, record { node = b.1.node; way = b.1.way; unmet = λ v. b.1.unmet (back b.0 v) })
+
+  pub order_none : Order Node leads []
+  order_none k within = absurd (omega arith)
 
   pub order_more : (ws : List ℕ) (s : ℕ) → Order Node leads ws → Next Node leads (Has ws) s → Order Node leads (ws ++ s ∷ [])
   order_more ws s was next k within =
@@ -66,10 +69,18 @@ falses_set (false ∷ bs) zero within un = omega arith
 falses_set (true ∷ bs) (suc s) within un = falses_set bs s (omega arith) un
 falses_set (false ∷ bs) (suc s) within un = omega (arith, falses_set bs s (omega arith) un)
 
-pub falses_fresh : (marks : List Bool) → ((t : ℕ) → get_or marks t false ≡ false) → falses marks ≡ length marks
-falses_fresh [] none = refl
-falses_fresh (true ∷ bs) none = absurd (clash (sym (none 0)))
-falses_fresh (false ∷ bs) none = omega (arith, falses_fresh bs (λ t. none (suc t)))
+none_marked : (n t : ℕ) → get_or (replicate n false) t false ≡ false
+none_marked zero t = refl
+none_marked (suc n) zero = refl
+none_marked (suc n) (suc t) = none_marked n t
+
+-- where every mark was taken away
+pub marks_none : (n : ℕ) → MarksOf (replicate n false) []
+marks_none n t = (λ m. absurd (clash (sym (none_marked n t) ∙ m)), λ h. absurd (omega (arith, h.1)))
+
+pub falses_none : (n : ℕ) → falses (replicate n false) ≡ n
+falses_none zero = refl
+falses_none (suc n) = omega (arith, falses_none n)
 
 -- the same nodes, said otherwise
 module _ {N V : ℕ → Type 0} (leads : ℕ → ℕ → Type 0) (to : (k : ℕ) → N k → V k) (back : (k : ℕ) → V k → N k) where

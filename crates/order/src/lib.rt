@@ -1,16 +1,13 @@
 // The order in which the nodes of a graph are worked, and its circles.
 #![tactic(auto)]
 
-ghost use Rattle.std.specs.Prelude.{◌≡◌, ℕ, ◌<◌, ◌≤◌, true, false, length, take, Decides, MatchOption, MatchResult, slice_index, slice_index_or};
+ghost use Rattle.std.specs.Prelude.{◌≡◌, ℕ, ◌<◌, ◌≤◌, true, false, length, take, Decides, IsTrue, MatchOption, MatchResult, slice_index, slice_index_or};
 ghost use Rattle.std.specs.List.{ContainsAt as Has};
 ghost use Rattle.order.specs.Order.{Next, Stuck, Order, Planned, Unworkable, Marked, Ready, Barred, MarksOf, Below};
 ghost use Rattle.order.specs.Ways.{NoCircle, Endless};
 
 // A graph of numbered nodes, told by a ghost relation and the test for a way that is still open.
 pub trait Graph {
-    // what the tests ask for
-    ghost can: { Self → Type 0 };
-
     // the nodes are the numbers below it that `node` holds of
     ghost nodes: { Self → ℕ };
 
@@ -21,57 +18,52 @@ pub trait Graph {
 
     // Whether the number k is a node.
     fn is_node(&self, k: usize) -> bool
-        requires { (can self.now) × (k < nodes self.now) }
+        requires { k < nodes self.now }
         ensures { Decides result (node self.now k) };
 
     // A node that is not marked and to which a way of node k leads; none where all its ways lead to marked nodes.
     fn barred(&self, k: usize, marks: &[bool]) -> Option<usize>
-        requires { (can self.now) × ((node self.now k) × ((k < nodes self.now) × (length marks.now ≡ nodes self.now))) }
+        requires { (node self.now k) × ((k < nodes self.now) × (length marks.now ≡ nodes self.now)) }
         ensures { MatchOption result (Ready (leads self.now) (Marked marks.now) k) (Barred (Below (nodes self.now) (node self.now)) (leads self.now) (Marked marks.now) k) };
 }
 
 // Whether k is an unmarked node.
 fn is_left<G: Graph>(graph: &G, k: usize, marks: &[bool]) -> bool
-    requires { (G.can graph.now) × ((k < length marks.now) × (length marks.now ≡ G.nodes graph.now)) }
+    requires { (k < length marks.now) × (length marks.now ≡ G.nodes graph.now) }
     ensures { Decides result (G.node graph.now k × (Marked marks.now k → ⊥)) }
 {
     graph.is_node(k) && !marks[k]
 }
 
-// The next node to work.
-fn next_node<G: Graph>(graph: &G, marks: &[bool]) -> Option<usize>
-    requires { (G.can graph.now) × (length marks.now ≡ G.nodes graph.now) }
-    ensures { MatchOption result (Stuck (Below (G.nodes graph.now) (G.node graph.now)) (G.leads graph.now) (Marked marks.now)) (Next (Below (G.nodes graph.now) (G.node graph.now)) (G.leads graph.now) (Marked marks.now)) }
+// Whether k is an unmarked node whose ways all lead to marked ones; an unmarked one that is not has a way to another.
+fn is_ready<G: Graph>(graph: &G, k: usize, marks: &[bool]) -> bool
+    requires within { k < length marks.now }
+    requires marks { length marks.now ≡ G.nodes graph.now }
+    ensures ready { IsTrue result → G.node graph.now k × (Marked marks.now k → ⊥) × Ready (G.leads graph.now) (Marked marks.now) k }
+    ensures barred { result ≡ false → G.node graph.now k → (Marked marks.now k → ⊥) → (d : ℕ) × Barred (Below (G.nodes graph.now) (G.node graph.now)) (G.leads graph.now) (Marked marks.now) k d }
 {
-    for s in 0..marks.len() {
-        if is_left(graph, s, marks) {
-            match graph.barred(s, marks) {
-                None => return Some(s),
-                Some(_) => {}
-            }
-        }
-    }
-    None
+    is_left(graph, k, marks) && graph.barred(k, marks).is_none()
 }
 
-// Takes every mark away.
-fn clear(marks: &mut [bool])
-    ensures { (t : ℕ) → slice_index_or marks.new t false ≡ false }
+// The next node to work.
+fn next_node<G: Graph>(graph: &G, marks: &[bool]) -> Option<usize>
+    requires { length marks.now ≡ G.nodes graph.now }
+    ensures { MatchOption result (Stuck (Below (G.nodes graph.now) (G.node graph.now)) (G.leads graph.now) (Marked marks.now)) (Next (Below (G.nodes graph.now) (G.node graph.now)) (G.leads graph.now) (Marked marks.now)) }
 {
-    for m in marks.iter_mut() {
-        *m = false;
-    }
+    (0..marks.len()).find(|k| is_ready(graph, *k, marks))
 }
 
 // Marks the nodes that can be worked, writes them in working order, and answers how many there are.
 fn working_order<G: Graph>(graph: &G, marks: &mut [bool], order: &mut [usize]) -> usize
-    requires { (G.can graph.now) × ((length marks.old ≡ G.nodes graph.now) × ((((t : ℕ) → slice_index_or marks.old t false ≡ false)) × (length marks.old ≤ length order.old))) }
+    requires { (length marks.old ≡ G.nodes graph.now) × (length marks.old ≤ length order.old) }
     ensures within { result ≤ length order.new }
     ensures order { Order (Below (G.nodes graph.now) (G.node graph.now)) (G.leads graph.now) (take result order.new) }
     ensures marks { MarksOf marks.new (take result order.new) }
     ensures none { Stuck (Below (G.nodes graph.now) (G.node graph.now)) (G.leads graph.now) (Has (take result order.new)) }
 {
+    marks.fill(false);
     let mut k = 0;
+    // each turn asks with the marks that the turn before it wrote, so this is no chain
     while let Some(s) = next_node(graph, marks) {
         marks[s] = true;
         order[k] = s;
@@ -82,28 +74,21 @@ fn working_order<G: Graph>(graph: &G, marks: &mut [bool], order: &mut [usize]) -
 
 // The lowest node that is not marked.
 fn lowest_unmarked<G: Graph>(graph: &G, marks: &[bool]) -> Option<usize>
-    requires { (G.can graph.now) × (length marks.now ≡ G.nodes graph.now) }
+    requires { length marks.now ≡ G.nodes graph.now }
     ensures { MatchOption result ((t : ℕ) → Below (G.nodes graph.now) (G.node graph.now) t → Marked marks.now t) (λ s. Below (G.nodes graph.now) (G.node graph.now) s × ((Marked marks.now s → ⊥) × ((t : ℕ) → t < s → Below (G.nodes graph.now) (G.node graph.now) t → Marked marks.now t))) }
 {
-    for t in 0..marks.len() {
-        if is_left(graph, t, marks) {
-            return Some(t);
-        }
-    }
-    None
+    (0..marks.len()).find(|t| is_left(graph, *t, marks))
 }
 
 // The working order of all nodes, in the first rows of `order`, and how many they are; or the lowest node that cannot be worked.
 // It asks for as many marks as there are numbers and for as many rows; what the marks and further rows hold afterwards is free.
 // An order of all nodes says that there is no circle; from a node that cannot be worked there are ways of every length.
 pub fn plan<G: Graph>(graph: &G, marks: &mut [bool], order: &mut [usize]) -> Result<usize, usize>
-    requires can { G.can graph.now }
     requires marks { length marks.old ≡ G.nodes graph.now }
     requires rows { length marks.old ≤ length order.old }
     ensures order { MatchResult result (Planned (Below (G.nodes graph.now) (G.node graph.now)) (G.leads graph.now) order.new) (Unworkable (Below (G.nodes graph.now) (G.node graph.now)) (G.leads graph.now)) }
     ensures circles { MatchResult result (λ _. NoCircle (Below (G.nodes graph.now) (G.node graph.now)) (G.leads graph.now)) (Endless (G.leads graph.now)) }
 {
-    clear(marks);
     let count = working_order(graph, marks, order);
     match lowest_unmarked(graph, marks) {
         Some(s) => Err(s),
@@ -123,8 +108,6 @@ mod tests {
     }
 
     impl Graph for Links {
-        ghost can = { λ g. Unit {0} };
-
         ghost nodes = { λ g. 6 };
 
         ghost node = { λ g k. slice_index_or g.here k false ≡ true };
@@ -137,10 +120,7 @@ mod tests {
 
         fn barred(&self, k: usize, marks: &[bool]) -> Option<usize> {
             let d = self.next[k];
-            if d < 6 && self.here[d] && !marks[d] {
-                return Some(d);
-            }
-            None
+            (d < 6 && self.here[d] && !marks[d]).then_some(d)
         }
     }
 
@@ -152,14 +132,8 @@ mod tests {
         };
         let mut marks = [true; 6];
         let mut order = [9; 6];
-        match plan(&graph, &mut marks, &mut order) {
-            Ok(n) => assert_eq!(rt; n, 4),
-            Err(_) => assert!(rt; false),
-        }
-        assert_eq!(rt; order[0], 4);
-        assert_eq!(rt; order[1], 1);
-        assert_eq!(rt; order[2], 0);
-        assert_eq!(rt; order[3], 3);
+        assert_eq!(rt; plan(&graph, &mut marks, &mut order), Ok(4));
+        assert_eq!(rt; order.first_chunk(), Some(&[4, 1, 0, 3]));
     }
 
     #[test]
@@ -170,9 +144,6 @@ mod tests {
         };
         let mut marks = [false; 6];
         let mut order = [9; 6];
-        match plan(&graph, &mut marks, &mut order) {
-            Ok(_) => assert!(rt; false),
-            Err(s) => assert_eq!(rt; s, 1),
-        }
+        assert_eq!(rt; plan(&graph, &mut marks, &mut order), Err(1));
     }
 }

@@ -1,15 +1,14 @@
 -- The working order, one node a turn. Assumes nothing.
-use Rattle.std.proofs.Common.{◌<◌, true, length, take, set, sym, ◌∙◌, subst, arith}
-use borrow.Author.Tests.{clash}
-use Rattle.std.proofs.lemmas.List.{take_more_set}
+use Rattle.std.proofs.Common.{◌<◌, true, length, take, set, replicate, false, ◌≡◌, sym, subst, rules, arith}
+use Rattle.std.proofs.lemmas.List.{take_more_set, length-replicate}
 use Rattle.order.specs.Order.{Below, Order, MarksOf}
-use Rattle.order.proofs.Orders.{next_same, stuck_same, order_more, marks_more, falses_set, falses_fresh}
+use Rattle.order.proofs.Orders.{next_same, stuck_same, order_more, marks_more, falses_set, falses_none, order_none, marks_none}
 use Rattle.order.proofs.working_order.Goals as goal
 
 pub loop-s-init : goal.loop-s-init
 loop-s-init g c =
-    let none = c.requires.1.1.0 in
-    (omega (arith, falses_fresh c.args.marks.now none), λ k none'. absurd (omega arith), λ t. (λ m. absurd (clash (sym (none t) ∙ m)), λ h. absurd (omega (arith, h.1))))
+    let clean : c.fill.new.self ≡ replicate (length c.args.marks.now) false = c.fill.ensures.after (λ y e. search rules) in
+    rw clean (omega (arith, falses_none (length c.args.marks.now), length-replicate (length c.args.marks.now) false), order_none _ _, marks_none (length c.args.marks.now))
 
 pub bounds-marks-s : goal.bounds-marks-s
 bounds-marks-s g c =

@@ -1,8 +1,8 @@
--- At its end every count is the sum.
-use Rattle.std.proofs.Common.{sym, ◌∙◌, arith}
-use Rattle.costs.specs.Same.{same_counts}
-use Rattle.costs.specs.CountLaws.{counts_by_at}
+-- Every count is the sum.
+use Rattle.std.proofs.Common.{rules}
+use Rattle.costs.specs.Entries.{count_sum}
+use Rattle.costs.specs.CountLaws.{counts_by_from}
 use Rattle.costs.proofs.counts.Counts.sum.Goals as goal
 
 pub returns : goal.returns
-returns c = same_counts _ _ (λ k l. c.loop-i.invariant.1 k (omega arith) ∙ sym (counts_by_at _ c.args.self c.args.other k l))
+returns c = counts_by_from count_sum _ c.args.self c.args.other c.by.result (λ k l. let made = c.by.ensures k l in search rules)

@@ -1,9 +1,0 @@
--- Counts before i are sums, the others as they were.
-use Rattle.std.proofs.Common.{◌≡◌, ℕ, ◌<◌, ◌≤◌, length, get_or}
-use Rattle.costs.specs.Entries.{count_sum}
-use Rattle.costs.proofs.counts.Counts.sum.Given as goal
-
-abbrev pub invariant-loop-i : goal.invariant-loop-i
-invariant-loop-i l =
-    (length l.at ≡ 8) × ((k : ℕ) → k < l.i → get_or l.at k 0 ≡ count_sum (get_or l.initial.at k 0) (get_or l.other.at k 0))
-    × ((k : ℕ) → l.i ≤ k → get_or l.at k 0 ≡ get_or l.initial.at k 0)
