@@ -1,5 +1,6 @@
 -- What the library promises. Assumes nothing.
 pub mod Books
+pub mod Lent
 pub mod Runs
 pub mod Refusals
 pub mod Checks
@@ -13,6 +14,5 @@ pub mod Marks
 pub mod Kept
 pub mod Placing
 pub mod Theorems
-pub mod Widths
 pub mod Calls
 pub mod Replaying
