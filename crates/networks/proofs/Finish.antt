@@ -1,8 +1,8 @@
 -- What the calls above promise, from what those below promise. Assumes nothing.
-use Rattle.std.proofs.Common.{◌≡◌, ℕ, ◌+◌, ◌*◌, ◌/◌, ◌%◌, ◌<◌, ◌≤◌, List, get_or, take, drop, Ok, Err, Result, sym, ap, ◌∙◌, arith, MatchResult}
+use Rattle.std.proofs.Common.{◌≡◌, ℕ, ◌+◌, ◌*◌, ◌/◌, ◌%◌, List, length, take, Some, None, Option, Ok, Err, Result, refl, ap, ◌∙◌, arith, MatchResult}
+use Rattle.std.specs.Option.{ok_or}
 use Rattle.std.specs.List.{ContainsAt as Has, AllByRecursion}
 use Rattle.std.proofs.ByRecursion.{All-weaker}
-use Rattle.std.proofs.lemmas.List.{get_or-take, drop-take, take-take}
 use Rattle.costs.specs.Amounts.{Amounts}
 use Rattle.costs.specs.declared.entry.Entry.{Entry}
 use Rattle.order.specs.Order.{Below, Complete, Unworkable}
@@ -12,15 +12,29 @@ use Rattle.sheets.specs.declared.words.Connection.{Connection}
 use Rattle.sheets.specs.declared.words.End.{End}
 use Rattle.sheets.specs.declared.words.End.TheVariants.{Outside, Inside}
 use Rattle.networks.specs.declared.beneath.Face.{Face}
-use Rattle.networks.specs.Networks.{Network, Given, Node, Target, Leads, WorkedIn, CircleAt, targets}
+use Rattle.sheets.proofs.Forms.{form_of}
+use Rattle.sheets.specs.Sheets.{Sheet}
+use Rattle.sheets.specs.declared.opened.Checked.{Checked}
+use Rattle.sheets.specs.declared.words.Interface.{Interface}
+use Rattle.networks.specs.Networks.{Network, says, network_of, Named, Fit, Given, Node, Target, Leads, WorkedIn, CircleAt, targets}
 use Rattle.networks.specs.Cards.{Formed, Worked}
 use Rattle.networks.specs.Rows.{Lent, Filled, table_at}
 use Rattle.networks.proofs.Places.{source_targets, place_node, at_place}
-use Rattle.networks.proofs.Small.{length_list_at}
+use Rattle.costs.proofs.Interface.{length_list_at}
 
-pub cases_as : {T E : Type 0} (P P' : T → Type 0) (Q Q' : E → Type 0) → ((t : T) → P t → P' t) → ((e : E) → Q e → Q' e) → (r : Result T E) → MatchResult r P Q → MatchResult r P' Q'
-cases_as P P' Q Q' p q (Ok t) h = p t h
-cases_as P P' Q Q' p q (Err e) h = q e h
+-- a forming that stopped is refused by what `ok_or` was given
+pub refused_long : {X E : Type 0} (o : Option X) (long refusal : E) → Path (Result X E) (Err refusal) (ok_or o long) → refusal ≡ long
+refused_long None long refusal is = cc
+refused_long (Some x) long refusal is = cc
+
+-- what `map_err` was given, where it answers an error, and where it answers none
+pub mapped_err : {T E D : Type 0} (Q : E → Type 0) (r : Result T E) (d : D) → MatchResult r (λ x. Path (Result T D) (Err d) (Ok x)) Q → (e : E) × (r ≡ Err e) × Q e
+mapped_err {T} {E} {D} Q (Ok x) d h = let clash : Path (Result T D) (Err d) (Ok x) = h in absurd cc
+mapped_err Q (Err e) d h = (e, refl, h)
+
+pub mapped_ok : {T E : Type 0} (D : Type 0) (Q : E → Type 0) (r : Result T E) (t : T) → MatchResult r (λ x. Path (Result T D) (Ok t) (Ok x)) Q → ((e : E) → Q e → ⊥) → r ≡ Ok t
+mapped_ok {T} {E} D Q (Ok x) t h none = let same : Path (Result T D) (Ok t) (Ok x) = h in cc
+mapped_ok D Q (Err e) t h none = absurd (none e h)
 
 module _ {M : Type 0} (net : Network) (card : ℕ → ℕ → List (Entry M)) where
   to : (k : ℕ) → Below (8 * net.instances) (Node net) k → Node net k
@@ -51,19 +65,19 @@ module _ {M : Type 0} (ops : Amounts M) (gives : List (Entry M) → List (Entry 
       one (Outside p) target = omega (arith, target, given.outputs)
       one (Inside j h) target = omega (arith, (worked.places j h target).sized.0, length_list_at rows lens (8 * j + h) lent)
 
--- what stands in the first n rows
-module _ {X : Type 0} (xs ys : List X) (n : ℕ) (same : take n xs ≡ take n ys) where
-  pub same_part : (a l : ℕ) → a + l ≤ n → take l (drop a xs) ≡ take l (drop a ys)
-  same_part a l within =
-      sym (drop-take a l xs) ∙ ap (drop a) (sym (take-take (a + l) n xs within) ∙ ap (take (a + l)) same ∙ take-take (a + l) n ys within) ∙ drop-take a l ys
-
-  pub same_at : (q : ℕ) (d : X) → q < n → get_or xs q d ≡ get_or ys q d
-  same_at q d within = sym (get_or-take n xs q d within) ∙ ap (λ l. get_or l q d) same ∙ get_or-take n ys q d within
-
 -- a composite by its parts
 abbrev network : ℕ → ℕ → ℕ → (ℕ → Face) → List Connection → Network
 network a b n faces cs = record { inputs = a; outputs = b; instances = n; faces = faces; connections = cs }
 
-pub network_same : (a b n a' b' n' : ℕ) (faces : ℕ → Face) (cs cs' : List Connection) → a ≡ a' → b ≡ b' → n ≡ n' → cs ≡ cs' → network a b n faces cs ≡ network a' b' n' faces cs'
-network_same a b n a' b' n' faces cs cs' p q r s =
-    ap (λ x. network x b n faces cs) p ∙ ap (λ x. network a' x n faces cs) q ∙ ap (λ x. network a' b' x faces cs) r ∙ ap (network a' b' n' faces) s
+-- what was read off a sheet is what it says
+pub network_read : (sheet : Sheet) (face : Interface) (n k : ℕ) (faces : ℕ → Face) (wires : List Connection) → face ≡ sheet.face → n ≡ length sheet.instances → k ≡ length sheet.connections → take (length sheet.connections) wires ≡ sheet.connections
+    → network face.inputs face.outputs n faces (take k wires) ≡ network_of sheet faces
+network_read sheet face n k faces wires p q r s =
+    ap (λ (i : Interface). network i.inputs i.outputs n faces (take k wires)) p ∙ ap (λ x. network sheet.face.inputs sheet.face.outputs x faces (take k wires)) q
+    ∙ ap (network sheet.face.inputs sheet.face.outputs (length sheet.instances) faces) (ap (λ x. take x wires) r ∙ s)
+
+-- what a checked sheet gives with the check of its names and the limits beneath
+pub sheet_given : {M : Type 0} (sheet : Checked) (faces : ℕ → Face) (card : ℕ → ℕ → List (Entry M)) → Named (network_of (says sheet) faces) → Fit (network_of (says sheet) faces) card → Given (network_of (says sheet) faces) card
+sheet_given sheet faces card named fit =
+    let form = form_of sheet.width.bytes sheet.bytes.now sheet.right in
+    record { named = named; fit = fit; instances = form.few_instances; inputs = form.few_inputs; outputs = form.few_outputs }

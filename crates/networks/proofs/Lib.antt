@@ -1,6 +1,5 @@
 -- What follows of the crate's definitions. Assumes nothing.
 pub mod Small
-pub mod Segments
 pub mod Places
 pub mod Joining
 pub mod Forming
@@ -9,6 +8,7 @@ pub mod Covering
 pub mod Attaining
 pub mod Determined
 pub mod Evaluating
+pub mod Found
 pub mod Ways
 pub mod Finish
 pub mod Promised

@@ -1,5 +1,5 @@
 -- A forming, one step at a time. Assumes nothing.
-use Rattle.std.proofs.Common.{◌≡◌, ℕ, zero, suc, ◌+◌, ◌-◌, ◌<◌, ◌≤◌, true, false, cond, List, [], ◌∷◌, ◌++◌, length, get_or, take, drop, Some, None, Option, sym, refl, ap, ◌∙◌, subst, inl, inr, arith}
+use Rattle.std.proofs.Common.{◌≡◌, ℕ, zero, suc, ◌+◌, ◌-◌, ◌<◌, ◌≤◌, true, false, cond, List, [], ◌∷◌, ◌++◌, length, get_or, drop, Some, None, Option, sym, refl, ap, ◌∙◌, subst, inl, inr, arith}
 use borrow.Author.Tests.{clash}
 use Rattle.std.proofs.lemmas.List.{at_drop_more, drop_all}
 use Rattle.costs.specs.Amounts.{Amounts}
@@ -8,10 +8,10 @@ use Rattle.costs.specs.declared.entry.Entry.{Entry}
 use Rattle.sheets.specs.declared.words.Connection.{Connection}
 use Rattle.sheets.specs.declared.words.End.{End}
 use Rattle.sheets.specs.declared.words.End.TheVariants.{Inside}
-use Rattle.networks.specs.Forming.{Formation, list, long, Then}
+use Rattle.networks.specs.Forming.{Formation, list, long, Then, Forms}
 use Rattle.networks.specs.Networks.{same, targets, outputs}
 use Rattle.networks.specs.Cards.{target_list, Joins, Times, Follows, SourceList, Sends, SendsAll, EntryList, Entries}
-use Rattle.networks.specs.Rows.{Came, has_some}
+use Rattle.networks.specs.Rows.{has_some}
 
 module _ {X : Type 0} (P : Formation X → Type 0) (Q : List X → Formation X → Type 0) where
   -- the first came to a list
@@ -46,9 +46,9 @@ module _ {M : Type 0} (ops : Amounts M) (gives : List (Entry M) → List (Entry 
   follows_long ts t us xs is p = subst (λ l. Follows ops gives T l xs long) (sym is) (inl p)
 
 -- the same answer to another question
-pub came_as : {X : Type 0} (P Q : Formation X → Type 0) (rows : List X) → ((o : Formation X) → P o → Q o) → (r : Option ℕ) → Came P rows r → Came Q rows r
-came_as P Q rows to (Some n) h = record { formed = to (list (take n rows)) h.formed; some = h.some; few = h.few }
-came_as P Q rows to None h = to long h
+pub forms_as : {X : Type 0} (P Q : Formation X → Type 0) (xs : List X) → ((o : Formation X) → P o → Q o) → (r : Option (Unit {0})) → Forms P xs r → Forms Q xs r
+forms_as P Q xs to (Some _) h = to (list xs) h
+forms_as P Q xs to None h = to long h
 
 pub outputs_more : (o : ℕ) → o < 8 → drop o outputs ≡ o ∷ drop (o + 1) outputs
 unfolding outputs

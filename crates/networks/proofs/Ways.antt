@@ -1,6 +1,7 @@
 -- Leading, connection by connection. Assumes nothing.
-use Rattle.std.proofs.Common.{◌≡◌, ℕ, ◌/◌, ◌%◌, ◌≤◌, true, cond, List, [], ◌∷◌, sym, refl, ap, ◌∙◌, subst, inl, inr, ⊎_elim, arith}
+use Rattle.std.proofs.Common.{◌≡◌, ℕ, ◌/◌, ◌%◌, ◌≤◌, Bool, true, false, ◌&&◌, cond, List, [], ◌∷◌, sym, refl, ap, ◌∙◌, subst, inl, inr, ⊎_elim, Decides, arith}
 use borrow.Author.Tests.{clash}
+use Rattle.std.specs.List.{IsAnyAnswer}
 use Rattle.std.proofs.lemmas.Bool.{cases_Bool, and_parts, eqb-true, eq-eqb, and_from}
 use Rattle.costs.specs.Entries.{count}
 use Rattle.costs.specs.Lists.{Among}
@@ -12,6 +13,10 @@ use Rattle.sheets.specs.declared.words.End.TheVariants.{Outside, Inside}
 use Rattle.costs.proofs.Interface.{among_all}
 use Rattle.networks.specs.Networks.{same, same_ends, targets, Network, Named, Node, Target, Leads, Full}
 use Rattle.networks.proofs.Places.{source_targets}
+use Rattle.sheets.specs.contracts.words.ConnectionPartialEq as of_connection
+use Rattle.sheets.specs.contracts.words.EndPartialEq as of_end
+use Rattle.networks.proofs.Found.{decides_any}
+use Rattle.networks.specs.Rows.{has_some}
 use Rattle.networks.specs.Ways.{SendsOn, Carries}
 
 pub same_true : (a b : End) → same a b ≡ true → a ≡ b
@@ -60,7 +65,7 @@ target_to (c ∷ cs) s t (inr h) =
     (λ no'. subst (λ b. Among t (cond b (c.target ∷ targets cs s) (targets cs s))) (sym no') rest)
     (cases_Bool (same c.source s))
 
-any_weaker : {X : Type 0} (P Q : X → Type 0) → ((x : X) → P x → Q x) → (xs : List X) → Any P xs → Any Q xs
+pub any_weaker : {X : Type 0} (P Q : X → Type 0) → ((x : X) → P x → Q x) → (xs : List X) → Any P xs → Any Q xs
 any_weaker P Q f [] h = h
 any_weaker P Q f (x ∷ xs) (inl p) = inl (f x p)
 any_weaker P Q f (x ∷ xs) (inr h) = inr (any_weaker P Q f xs h)
@@ -114,6 +119,20 @@ module _ {M : Type 0} (net : Network) (card : ℕ → ℕ → List (Entry M)) (i
 pub leads_node : {M : Type 0} (net : Network) (card : ℕ → ℕ → List (Entry M)) → Named net → (n m : ℕ) → Leads net card n m → Node net m
 leads_node net card named n m h = among_all (Target net) (Inside (m / 8) (m % 8)) (targets net.connections (Inside (n / 8) h.output)) (source_targets net named (Inside (n / 8) h.output)) h.connected
 
+-- whether a source has targets
+pub some_targets : (cs : List Connection) (s : End) → Decides (has_some (targets cs s)) (Any (λ c. c.source ≡ s) cs)
+some_targets [] s = (λ e. absurd (clash e), λ none. absurd none)
+some_targets (c ∷ cs) s =
+    let rest = some_targets cs s in
+    ⊎_elim
+    (λ yes'. (λ _. inl (same_true c.source s yes'), λ _. ap (λ b. has_some (cond b (c.target ∷ targets cs s) (targets cs s))) yes'))
+    (λ no'.
+    let on = ap (λ b. has_some (cond b (c.target ∷ targets cs s) (targets cs s))) no' in (
+      λ e. inr (rest.0 (sym on ∙ e)),
+      λ h. ⊎_elim (λ here. absurd (clash (sym no' ∙ sym (ap (same c.source) here) ∙ same_same c.source))) (λ there. on ∙ rest.1 there) h,
+    ))
+    (cases_Bool (same c.source s))
+
 -- one that stands in the list, as one of which something holds
 pub among_any : {X : Type 0} (x : X) (xs : List X) → Among x xs → Any (λ y. y ≡ x) xs
 among_any x xs h = any_from (λ y. y ≡ x) x xs h refl
@@ -129,3 +148,21 @@ same_ends_true c d e =
 
 pub same_ends_same : (c d : Connection) → c ≡ d → same_ends c d ≡ true
 same_ends_same c d e = ap (same_ends c) (sym e) ∙ and_from (same c.source c.source) (same c.target c.target) (same_same c.source) (same_same c.target)
+
+-- the derived comparisons are the same tests
+pub derived_end : (a b : End) → (of_end.TheImpl.ghosts).eq a b ≡ same a b
+derived_end (Outside p) (Outside q) = refl
+derived_end (Outside p) (Inside j g) = refl
+derived_end (Inside i f) (Outside q) = refl
+derived_end (Inside i f) (Inside j g) = refl
+
+derived : (c d : Connection) → (of_connection.TheImpl.ghosts).eq c d ≡ same_ends c d
+derived c d = ap (λ b. b && (of_end.TheImpl.ghosts).eq c.target d.target) (derived_end c.source d.source) ∙ ap (λ b. same c.source d.source && b) (derived_end c.target d.target)
+
+-- what `contains` answers, by the derived comparison
+pub decides_among : (r : Bool) (x : Connection) (xs : List Connection) → IsAnyAnswer (λ y b. (of_connection.TheImpl.ghosts).eq y x ≡ b) xs r → Decides r (Among x xs)
+decides_among r x xs h =
+    let some = decides_any (λ y. (of_connection.TheImpl.ghosts).eq y x ≡ true) (λ y. (of_connection.TheImpl.ghosts).eq y x ≡ false) (λ y no yes'. clash (sym no ∙ yes')) r xs h in (
+      λ e. any_among x xs (any_weaker _ _ (λ y is. same_ends_true y x (sym (derived y x) ∙ is)) xs (some.0 e)),
+      λ h'. some.1 (any_weaker _ _ (λ y is. derived y x ∙ same_ends_same y x is) xs (among_any x xs h')),
+    )

@@ -10,7 +10,7 @@ use Rattle.order.specs.Order.{Next, Order}
 use Rattle.sheets.specs.declared.words.Connection.{Connection}
 use Rattle.sheets.specs.declared.words.End.{End}
 use Rattle.sheets.specs.declared.words.End.TheVariants.{Outside, Inside}
-use Rattle.networks.specs.Forming.{Formation, list, long, Is, Then, Reduces}
+use Rattle.costs.specs.Forming.{Formation, list, long, Is, Then, Reduces}
 use Rattle.networks.specs.Networks.{Network, targets, outputs, Node, Place, Leads, WorkedIn}
 
 -- the list of a target, over a table of the lists of places: outside one entry with the zero amount and one count there; else the place's list

@@ -7,7 +7,7 @@ use Rattle.costs.specs.declared.entry.Entry.{Entry}
 use Rattle.sheets.specs.declared.words.Connection.{Connection}
 use Rattle.sheets.specs.declared.words.End.{End}
 use Rattle.sheets.specs.declared.words.End.TheVariants.{Outside, Inside}
-use Rattle.networks.specs.Forming.{Formation, list, long}
+use Rattle.costs.specs.Forming.{Formation, list, long}
 use Rattle.networks.specs.Networks.{Network, targets, outputs}
 use Rattle.networks.specs.Cards.{target_list}
 

@@ -1,10 +1,11 @@
 // Leading from place to place, and counts of 255 at connected outputs.
-ghost use Rattle.std.specs.Prelude.{ℕ, ◌*◌, ◌/◌, ◌%◌, ◌<◌, ◌≤◌, Decides, MatchOption};
+ghost use Rattle.std.specs.Prelude.{◌≡◌, ℕ, ◌*◌, ◌/◌, ◌%◌, ◌<◌, ◌≤◌, Decides, MatchOption};
 ghost use Rattle.costs.specs.Entries.{count};
 ghost use Rattle.order.specs.Order.{Any, Marked, Below, Ready, Barred};
-ghost use Rattle.networks.specs.Networks.{Node, Given, Leads, Full, FullAt, NoneFull};
+ghost use Rattle.networks.specs.Networks.{Node, Given, Leads, FullAt, NoneFull};
+ghost use Rattle.networks.specs.Carried.{given_one};
 ghost use Rattle.networks.specs.Rows.{net_of};
-ghost use Rattle.networks.specs.Ways.{SendsOn, Carries};
+ghost use Rattle.networks.specs.Ways.{SendsOn, Carries, FullPlace};
 
 use crate::beneath::Beneath;
 use crate::net::Net;
@@ -18,22 +19,14 @@ use std::marker::PhantomData;
 fn is_marked(marks: &[bool], t: usize) -> bool
     ensures { Decides result (Marked marks.now t) }
 {
-    if t < marks.len() {
-        return marks[t];
-    }
-    false
+    marks.get(t).copied().unwrap_or(false)
 }
 
 // Whether some entry counts output o so often or more.
 fn is_counted<M: Measure>(least: u8, entries: &[Entry<M>], o: usize) -> bool
     ensures { Decides result (Any (λ e. least ≤ count e o) entries.now) }
 {
-    for e in entries {
-        if e.counts.count(o) >= least {
-            return true;
-        }
-    }
-    false
+    entries.iter().any(|e| e.counts.count(o) >= least)
 }
 
 // Whether the source is an output of instance i that some entry counts so often or more.
@@ -42,10 +35,9 @@ fn is_sent<M: Measure>(least: u8, s: End, i: usize, entries: &[Entry<M>]) -> boo
 {
     match s {
         End::Outside { port: _ } => false,
-        End::Inside {
-            instance: j,
-            port: o,
-        } => j as usize == i && is_counted(least, entries, o as usize),
+        End::Inside { instance, port } => {
+            instance as usize == i && is_counted(least, entries, port as usize)
+        }
     }
 }
 
@@ -73,81 +65,80 @@ fn open_way<M: Measure>(
     }
 }
 
-// Whether k is the number of a place.
-fn is_place<M: Measure, B: Beneath<M>>(beneath: &B, k: usize) -> bool
-    ensures { Decides result (k % 8 < (B.faces beneath.now (k / 8)).inputs) }
-{
-    k % 8 < beneath.face(k / 8).inputs
-}
-
-// An unmarked place to which place k leads; none where it leads to marked places only.
-fn barred_place<M: Measure, B: Beneath<M>>(
-    net: &Net,
-    beneath: &B,
-    k: usize,
-    marks: &[bool],
-) -> Option<usize>
-    requires { Given (net_of net.now (B.faces beneath.now)) (B.cards beneath.now) }
-    ensures { MatchOption result (Ready (Leads (net_of net.now (B.faces beneath.now)) (B.cards beneath.now)) (Marked marks.now) k) (Barred (Below (8 * net.now.instances) (Node (net_of net.now (B.faces beneath.now)))) (Leads (net_of net.now (B.faces beneath.now)) (B.cards beneath.now)) (Marked marks.now) k) }
-{
-    let entries = beneath.card(k / 8, k % 8);
-    for c in net.connections {
-        match open_way(*c, k / 8, entries, marks) {
-            Some(d) => return Some(d),
-            None => {}
-        }
-    }
-    None
-}
-
-// Whether some entry for place k counts 255 at a connected output.
-fn is_full<M: Measure, B: Beneath<M>>(net: &Net, beneath: &B, k: usize) -> bool
-    ensures { Decides result (Full (net_of net.now (B.faces beneath.now)) (B.cards beneath.now) (k / 8) (k % 8)) }
-{
-    let entries = beneath.card(k / 8, k % 8);
-    for c in net.connections {
-        if is_sent(255, c.source, k / 8, entries) {
-            return true;
-        }
-    }
-    false
-}
-
-// The lowest place with such an entry.
-pub(crate) fn full_place<M: Measure, B: Beneath<M>>(net: &Net, beneath: &B) -> Option<usize>
-    requires { net.now.instances ≤ 16 }
-    ensures { MatchOption result (NoneFull (net_of net.now (B.faces beneath.now)) (B.cards beneath.now)) (FullAt (net_of net.now (B.faces beneath.now)) (B.cards beneath.now)) }
-{
-    for k in 0..8 * net.instances {
-        if is_place(beneath, k) && is_full(net, beneath, k) {
-            return Some(k);
-        }
-    }
-    None
-}
-
-// The places of a composite block as the nodes of a graph.
+// A composite block with what lies beneath it, as a graph: its places are the nodes.
 #[derive(Drop)]
-pub struct Places<'a, M, B> {
-    pub net: &'a Net<'a>,
+pub struct Places<'a, M: Measure, B: Beneath<M>> {
+    pub net: Net<'a>,
     pub beneath: &'a B,
     pub measure: PhantomData<M>,
+    ghost given: { Given (net_of net (B.faces beneath.now)) (B.cards beneath.now) } by { given_one (net_of net (B.faces beneath.now)) (B.cards beneath.now) },
+}
+
+impl<'a, M: Measure, B: Beneath<M>> Places<'a, M, B> {
+    pub(crate) fn new(net: Net<'a>, beneath: &'a B) -> Places<'a, M, B>
+        requires { Given (net_of net (B.faces beneath.now)) (B.cards beneath.now) }
+        ensures net { result.net ≡ net.entry }
+        ensures beneath { result.beneath.now ≡ beneath.now }
+    {
+        Places {
+            net,
+            beneath,
+            measure: PhantomData,
+        }
+    }
+
+    // Whether k is the number of a place.
+    fn is_place(&self, k: usize) -> bool
+        ensures { Decides result (k % 8 < (B.faces self.now.beneath.now (k / 8)).inputs) }
+    {
+        k % 8 < self.beneath.face(k / 8).inputs
+    }
+
+    // The lowest place with such an entry.
+    pub(crate) fn full_place(&self) -> Option<usize>
+        ensures { MatchOption result (NoneFull (net_of self.now.net (B.faces self.now.beneath.now)) (B.cards self.now.beneath.now)) (FullAt (net_of self.now.net (B.faces self.now.beneath.now)) (B.cards self.now.beneath.now)) }
+    {
+        (0..8 * self.net.instances).find(
+            |k: &usize| -> bool
+                ensures { Decides result (FullPlace (net_of self.entry.now.net (B.faces self.entry.now.beneath.now)) (B.cards self.entry.now.beneath.now) k.now) }
+            { is_full(self, *k) },
+        )
+    }
+}
+
+// Whether k is the number of a place for which some entry counts 255 at a connected output.
+fn is_full<M: Measure, B: Beneath<M>>(places: &Places<'_, M, B>, k: usize) -> bool
+    ensures { Decides result (FullPlace (net_of places.now.net (B.faces places.now.beneath.now)) (B.cards places.now.beneath.now) k) }
+{
+    let entries = places.beneath.card(k / 8, k % 8);
+    places.is_place(k)
+        && places
+            .net
+            .connections
+            .iter()
+            .any(|c| is_sent(255, c.source, k / 8, entries))
 }
 
 impl<'a, M: Measure, B: Beneath<M>> Graph for Places<'a, M, B> {
-    ghost can = { λ g. Given (net_of g.net.now (B.Beneath.faces g.beneath.now)) (B.Beneath.cards g.beneath.now) };
+    ghost nodes = { λ g. 8 * g.net.instances };
 
-    ghost nodes = { λ g. 8 * g.net.now.instances };
+    ghost node = { λ g k. Node (net_of g.net (B.Beneath.faces g.beneath.now)) k };
 
-    ghost node = { λ g k. Node (net_of g.net.now (B.Beneath.faces g.beneath.now)) k };
-
-    ghost leads = { λ g. Leads (net_of g.net.now (B.Beneath.faces g.beneath.now)) (B.Beneath.cards g.beneath.now) };
+    ghost leads = { λ g. Leads (net_of g.net (B.Beneath.faces g.beneath.now)) (B.Beneath.cards g.beneath.now) };
 
     fn is_node(&self, k: usize) -> bool {
-        is_place(self.beneath, k)
+        self.is_place(k)
     }
 
+    // An unmarked place to which place k leads; none where it leads to marked places only.
     fn barred(&self, k: usize, marks: &[bool]) -> Option<usize> {
-        barred_place(self.net, self.beneath, k, marks)
+        let entries = self.beneath.card(k / 8, k % 8);
+        for c in self.net.connections {
+            match open_way(*c, k / 8, entries, marks) {
+                Some(d) => return Some(d),
+                None => {}
+            }
+        }
+        None
     }
 }

@@ -3,10 +3,13 @@
 
 pub mod beneath;
 pub mod card;
+mod draft;
 mod graph;
 mod lists;
 pub mod naming;
 mod net;
 pub mod parted;
 pub mod refusal;
+mod room;
 mod table;
+mod work;

@@ -1,14 +1,13 @@
 // The checks of a composite against what lies beneath: every connection names something, and none is repeated.
 ghost use Rattle.std.specs.Prelude.{◌≡◌, ◌<◌, true, length, Some, Decides, MatchOption, MatchResult};
 ghost use Rattle.std.specs.List.{slice_get};
-ghost use Rattle.costs.specs.Lists.{Among};
 ghost use Rattle.sheets.specs.Sheets.{offsets_of};
 ghost use Rattle.sheets.specs.declared.words.Item.TheVariants.{Connection as OfConnection};
-ghost use Rattle.networks.specs.Networks.{says, network_of, same_ends, Source, Target, NamedConnection, Named};
-ghost use Rattle.networks.specs.Refusals.{FirstUnnamed, FirstRepeated, Distinct, Misnamed};
+ghost use Rattle.networks.specs.Networks.{says, network_of, Source, Target, NamedConnection, Named};
+ghost use Rattle.networks.specs.Refusals.{FirstUnnamed, RepeatedBy, FirstRepeated, Distinct, Misnamed};
 
 use crate::beneath::Beneath;
-use crate::net::{connection_at, is_same, read_connections};
+use crate::net::read_connections;
 use crate::refusal::Refusal;
 use costs::measure::Measure;
 use sheets::opened::Checked;
@@ -43,47 +42,31 @@ fn is_named<M: Measure, B: Beneath<M>>(sheet: &Checked<'_>, beneath: &B, c: Conn
     is_source(sheet, beneath, c.source) && is_target(sheet, beneath, c.target)
 }
 
-// The first connection with an end that names nothing.
-fn unnamed<M: Measure, B: Beneath<M>>(sheet: &Checked<'_>, beneath: &B) -> Option<usize>
+// The first of the sheet's connections with an end that names nothing.
+fn unnamed<M: Measure, B: Beneath<M>>(
+    sheet: &Checked<'_>,
+    beneath: &B,
+    cs: &[Connection],
+) -> Option<usize>
+    requires { cs.now ≡ (says sheet.now).connections }
     ensures { MatchOption result (Named (network_of (says sheet.now) (B.faces beneath.now))) (FirstUnnamed (network_of (says sheet.now) (B.faces beneath.now))) }
 {
-    for k in 0..sheet.count(Item::Connection) {
-        if !is_named(sheet, beneath, connection_at(sheet, k)) {
-            return Some(k);
-        }
-    }
-    None
+    cs.iter().position(|c| !is_named(sheet, beneath, *c))
 }
 
-// Whether two connections are the same.
-fn is_equal(c: Connection, d: Connection) -> bool
-    ensures { result ≡ same_ends c d }
+// Whether connection k stands among those before it.
+fn is_repeated(cs: &[Connection], k: usize) -> bool
+    requires { k < length cs.now }
+    ensures { Decides result (RepeatedBy cs.now k) }
 {
-    is_same(c.source, d.source) && is_same(c.target, d.target)
-}
-
-// Whether the connection stands among these.
-fn is_among(c: Connection, cs: &[Connection]) -> bool
-    ensures { Decides result (Among c cs.now) }
-{
-    for d in cs {
-        if is_equal(*d, c) {
-            return true;
-        }
-    }
-    false
+    cs[..k].contains(&cs[k])
 }
 
 // The first connection that stands among those before it.
 fn repeated(cs: &[Connection]) -> Option<usize>
     ensures { MatchOption result (Distinct cs.now) (FirstRepeated cs.now) }
 {
-    for k in 0..cs.len() {
-        if is_among(cs[k], &cs[..k]) {
-            return Some(k);
-        }
-    }
-    None
+    (0..cs.len()).find(|k| is_repeated(cs, *k))
 }
 
 // The offset of connection k's field, in bytes.
@@ -94,29 +77,18 @@ fn offset_at(sheet: &Checked<'_>, k: usize) -> usize
     sheet.offset(Item::Connection, k).unwrap()
 }
 
-// The first connection of the sheet that is repeated.
-fn repeated_in(sheet: &Checked<'_>) -> Option<usize>
-    ensures { MatchOption result (Distinct (says sheet.now).connections) (FirstRepeated (says sheet.now).connections) }
-{
-    let none = End::Outside { port: 0 };
-    let mut rows = [Connection {
-        source: none,
-        target: none,
-    }; 64];
-    let n = read_connections(sheet, &mut rows);
-    repeated(&rows[..n])
-}
-
 // Check 5: a connection's instance or port names nothing. Then check 6: a connection repeated. Each over the whole sheet, at the first place.
 pub fn names<M: Measure, B: Beneath<M>>(sheet: &Checked<'_>, beneath: &B) -> Result<(), Refusal>
     ensures { MatchResult result (λ _. Named (network_of (says sheet.now) (B.faces beneath.now)) × Distinct (says sheet.now).connections) (Misnamed (network_of (says sheet.now) (B.faces beneath.now)) (offsets_of OfConnection sheet.now.bytes.now)) }
 {
-    if let Some(k) = unnamed(sheet, beneath) {
+    let wires = read_connections(sheet);
+    let cs = &wires[..sheet.count(Item::Connection)];
+    if let Some(k) = unnamed(sheet, beneath, cs) {
         return Err(Refusal::Unnamed {
             at: offset_at(sheet, k),
         });
     }
-    if let Some(second) = repeated_in(sheet) {
+    if let Some(second) = repeated(cs) {
         return Err(Refusal::Repeated {
             at: offset_at(sheet, second),
         });

@@ -1,14 +1,15 @@
--- The answers to the needs of `repeated`. Assumes nothing.
-use Rattle.std.proofs.Common.{refl, arith, below_more}
-use borrow.Author.Tests.{clash}
-use Rattle.networks.specs.Refusals.{RepeatedBy}
+-- The first that is found is the first. Assumes nothing.
+use Rattle.std.proofs.Common.{ℕ, ◌<◌, ◌≤◌, List, length, Some, None, Option, MatchOption, rules, tests, arith}
+use Rattle.std.proofs.lemmas.Iterator.{first_from_Range}
+use Rattle.sheets.specs.declared.words.Connection.{Connection}
+use Rattle.networks.specs.Refusals.{RepeatedBy, Distinct, FirstRepeated}
 use Rattle.networks.proofs.naming.repeated.Goals as goal
 
-pub returns-then-is_among : goal.returns-then-is_among
-returns-then-is_among c = record { within = c.loop-k-test.true; before = c.loop-k.invariant; repeated = c.if-is_among.ensures.0 refl }
-
-pub loop-k-preserved : goal.loop-k-preserved
-loop-k-preserved c = below_more (λ j. RepeatedBy c.args.cs.now j → ⊥) c.loop-k.k c.loop-k.invariant (λ again. clash (c.if-is_among.ensures.1 again))
+first : (cs : List Connection) (r : Option ℕ) → MatchOption r ((k : ℕ) → 0 ≤ k → k < length cs → RepeatedBy cs k → ⊥) (λ i. (0 ≤ i) × (i < length cs) × RepeatedBy cs i × ((k : ℕ) → 0 ≤ k → k < i → RepeatedBy cs k → ⊥)) → MatchOption r (Distinct cs) (FirstRepeated cs)
+first cs None h = λ k within. h k (omega arith) within
+first cs (Some i) h = record { within = h.1; before = λ j below. h.3 j (omega arith) below; repeated = h.2 }
 
 pub returns : goal.returns
-returns c k within = c.loop-k.invariant k (omega arith)
+returns c =
+    let cs = c.args.cs.now in
+    first cs c.find.result (first_from_Range _ _ _ c.find.result (RepeatedBy cs) (λ k. RepeatedBy cs k → ⊥) c.find.ensures.ran (λ x q k. search (rules, tests)) (λ x q k. search (rules, tests)))

@@ -1,28 +1,19 @@
--- The answers to the needs of `unnamed`. Assumes nothing.
-use Rattle.std.proofs.Common.{sym, refl, subst, arith}
-use borrow.Author.Tests.{clash}
-use Rattle.std.specs.List.{AllByRecursion}
-use Rattle.std.proofs.ByRecursion.{All-more}
+-- The first that is found is the first. Assumes nothing.
+use Rattle.std.proofs.Common.{ℕ, ◌<◌, length, Some, None, Option, MatchOption, subst, rules, tests, arith}
+use Rattle.std.specs.List.{HoldsAt, AllWithin, AllByRecursion}
+use Rattle.std.proofs.lemmas.Iterator.{IsFirst-from_position, YieldsList-from_slice}
 use Rattle.std.proofs.lemmas.List.{take_all}
-use Rattle.networks.specs.Networks.{says, network_of, NamedConnection}
-use Rattle.networks.specs.Refusals.{no_connection}
+use Rattle.networks.specs.Networks.{Network, says, network_of, NamedConnection, Named}
+use Rattle.networks.specs.Refusals.{FirstUnnamed, no_connection}
+use Rattle.networks.proofs.Found.{all_within}
 use Rattle.networks.proofs.naming.unnamed.Goals as goal
 
-pub returns-then-not-is_named : goal.returns-then-not-is_named
-returns-then-not-is_named g c =
-    let net = network_of (says c.args.sheet.now) (g.B.Beneath.faces c.args.beneath.now) in
-    record {
-      within = omega (arith, c.count-k-end.ensures);
-      before = c.loop-k.invariant;
-      wrong = λ named. clash (c.if-not-is_named.ensures.1 (subst (NamedConnection net) (sym c.connection_at.ensures) named));
-    }
-
-pub loop-k-preserved : goal.loop-k-preserved
-loop-k-preserved g c =
-    let net = network_of (says c.args.sheet.now) (g.B.Beneath.faces c.args.beneath.now) in
-    All-more (NamedConnection net) net.connections c.loop-k.k no_connection (omega (arith, c.count-k-end.ensures)) c.loop-k.invariant (subst (NamedConnection net) c.connection_at.ensures (c.if-not-is_named.ensures.0 refl))
+first : (net : Network) (r : Option ℕ) → MatchOption r (AllWithin (NamedConnection net) net.connections 0 (length net.connections)) (λ i. (i < length net.connections) × HoldsAt (λ a. NamedConnection net a → ⊥) net.connections i × AllWithin (NamedConnection net) net.connections 0 i) → MatchOption r (Named net) (FirstUnnamed net)
+first net None h = subst (AllByRecursion (NamedConnection net)) (take_all (length net.connections) net.connections (omega arith)) (all_within (NamedConnection net) net.connections (length net.connections) (omega arith) h)
+first net (Some i) h = record { within = h.0; before = all_within (NamedConnection net) net.connections i (omega (arith, h.0)) h.2; wrong = h.1 no_connection }
 
 pub returns : goal.returns
 returns g c =
     let net = network_of (says c.args.sheet.now) (g.B.Beneath.faces c.args.beneath.now) in
-    subst (AllByRecursion (NamedConnection net)) (take_all c.loop-k.k net.connections (omega (arith, c.count-k-end.ensures))) c.loop-k.invariant
+    let Good = NamedConnection net in
+    first net c.position.result (IsFirst-from_position _ _ c.position.result (λ a. Good a → ⊥) Good c.position.ensures.ran (YieldsList-from_slice net.connections cc) (λ x q k. search (rules, tests)) (λ x q k. search (rules, tests)))

@@ -1,29 +1,20 @@
--- The answers to the needs of `read_connections`. Assumes nothing.
-use Rattle.std.proofs.Common.{◌≡◌, [], ◌∷◌, ◌++◌, take, sym, refl, ap, ◌∙◌, arith}
-use Rattle.std.proofs.lemmas.List.{take_more, take_more_set, take_all}
+-- The rows are the sheet's connections. Assumes nothing.
+use Rattle.std.proofs.Common.{◌≡◌, ◌<◌, length, get_or, take, ◌∙◌, rules, tests, arith}
+use Rattle.std.proofs.lemmas.List.{ext_get_or, get_or-take, length-take-le}
+use Rattle.std.proofs.lemmas.Option.{slice_get-get_or}
 use Rattle.sheets.proofs.Forms.{form_of}
 use Rattle.networks.specs.Networks.{says}
 use Rattle.networks.specs.Refusals.{no_connection}
+use Rattle.networks.proofs.Found.{made_each}
 use Rattle.networks.proofs.net.read_connections.Goals as goal
-
-pub loop-k-init : goal.loop-k-init
-loop-k-init c =
-    let sheet = c.args.sheet.now in
-    let few = (form_of sheet.width.bytes sheet.bytes.now sheet.right).few_connections in
-    (omega (arith, c.count-n.ensures, few), refl)
-
-pub loop-k-preserved : goal.loop-k-preserved
-loop-k-preserved c =
-    let l = c.loop-k in
-    let cs = (says c.args.sheet.now).connections in (
-      l.invariant.0,
-      take_more_set l.into l.k c.connection_at.result (omega arith) ∙ ap (λ xs. xs ++ c.connection_at.result ∷ []) l.invariant.1
-          ∙ ap (λ x. take l.k cs ++ x ∷ []) c.connection_at.ensures ∙ sym (take_more cs l.k no_connection (omega (arith, c.count-n.ensures))),
-    )
 
 pub returns : goal.returns
 returns c =
-    let l = c.loop-k in
-    let cs = (says c.args.sheet.now).connections in
-    let end : c.count-n.result ≡ l.k = omega arith in
-    record { within = omega arith; rows = ap (λ k. take k l.into) end ∙ l.invariant.1 ∙ take_all l.k cs (omega (arith, c.count-n.ensures)) }
+    let sheet = c.args.sheet.now in
+    let cs = (says sheet).connections in
+    let few = (form_of sheet.width.bytes sheet.bytes.now sheet.right).few_connections in
+    let ys = c.from_fn.result in
+    let long = length-take-le (length cs) ys (omega (arith, few, c.from_fn.ensures.items.long)) in
+    let each = made_each _ _ (λ k y. k < length cs → y ≡ get_or cs k no_connection) (λ k y q call. (search (rules, tests), λ within. let there = slice_get-get_or cs k no_connection within in search (rules, tests, there))) ys 64 c.from_fn.ensures.items in
+    ext_get_or no_connection (take (length cs) ys) cs long
+    (λ i within. get_or-take (length cs) ys i no_connection (omega (arith, long)) ∙ each i no_connection (omega (arith, long, few)) (omega (arith, long)))
