@@ -1,7 +1,7 @@
 -- What the check of names answers: accepted where every number names something, else the first field that has one that does not. Assumes nothing.
-use Rattle.std.specs.Prelude.{◌≡◌, ℕ, ◌+◌, ◌<◌, List, length, take, Some, Ok, Err, Result}
+use Rattle.std.specs.Prelude.{◌≡◌, ℕ, ◌+◌, ◌<◌, Bool, true, false, List, length, take, Some, Ok, Err, Result}
 use Rattle.std.specs.List.{slice_get, AllByRecursion}
-use Rattle.sheets.specs.Sheets.{Sheet, sheet_of, offsets_of}
+use Rattle.sheets.specs.Sheets.{Sheet, sheet_of, offsets_of, count_of}
 use Rattle.sheets.specs.declared.opened.Checked.{Checked}
 use Rattle.sheets.specs.declared.words.Item.{Item}
 use Rattle.sheets.specs.declared.words.Item.TheVariants.{State, Transition, Entry}
@@ -33,3 +33,21 @@ pub data UnnamedAt (c : Checked) (p : ℕ) : Type 0 where
 abbrev pub Naming : Checked → Result Unit Refusal → Type 0
 Naming c (Ok u) = Named (says c)
 Naming c (Err e) = (number e ≡ 5) × (level e ≡ 1) × UnnamedAt c (place e)
+
+-- of n things each passed the test, by its answers
+pub record AllPass (answers : ℕ → Bool → Type 0) (n : ℕ) : Type 0 where
+  pub each : (k : ℕ) → k < n → answers k true
+
+-- the k-th of n things is the first that did not pass the test
+pub record FailsFirst (answers : ℕ → Bool → Type 0) (n k : ℕ) : Type 0 where
+  pub within : k < n
+  pub before : AllPass answers k
+  pub fails : answers k false
+
+-- refusal 5, level 1, at the field of the first of an item that did not pass the test
+pub record FailsAt (answers : ℕ → Bool → Type 0) (c : Checked) (item : Item) (e : Refusal) : Type 0 where
+  pub five : number e ≡ 5
+  pub one : level e ≡ 1
+  pub k : ℕ
+  pub first : FailsFirst answers (count_of item (says c)) k
+  pub at : OffsetOf c item k (place e)

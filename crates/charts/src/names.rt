@@ -1,11 +1,11 @@
 // The check of names: every number of a basic or a service sheet names something.
-ghost use Rattle.std.specs.Prelude.{◌≡◌, ℕ, ◌<◌, List, [], ◌∷◌, length, None, Decides, MatchOption, slice_index_or};
+ghost use Rattle.std.specs.Prelude.{◌≡◌, ℕ, ◌<◌, List, [], ◌∷◌, length, None, Decides, MatchOption, MatchResult, slice_index_or};
 ghost use Rattle.std.specs.List.{AllByRecursion};
 ghost use Rattle.sheets.specs.Sheets.{count_of};
 ghost use Rattle.sheets.specs.Shown.{shown_entry};
 ghost use Rattle.charts.specs.Charts.{Within, NamedAction, NamedTransition, NamedEntry, no_action, no_transition, no_entry};
 ghost use Rattle.charts.specs.Refusals.{number, level, place};
-ghost use Rattle.charts.specs.Naming.{says, First, OffsetOf, Naming};
+ghost use Rattle.charts.specs.Naming.{says, OffsetOf, AllPass, FailsFirst, FailsAt, Naming};
 
 use crate::refusal::Refusal;
 use sheets::field::ServiceEntry;
@@ -16,10 +16,7 @@ use sheets::words::{Action, Item, Transition};
 fn is_within(number: Option<u8>, n: usize) -> bool
     ensures { Decides result (Within n number) }
 {
-    match number {
-        Some(k) => (k as usize) < n,
-        None => true,
-    }
+    number.is_none_or(|k| usize::from(k) < n)
 }
 
 // Action j of state k.
@@ -58,12 +55,7 @@ fn is_action_named(sheet: &Checked<'_>, action: Action) -> bool
 fn is_state_named(sheet: &Checked<'_>, k: usize) -> bool
     ensures { Decides result (AllByRecursion (NamedAction (says sheet.now)) (slice_index_or (says sheet.now).states k [])) }
 {
-    for j in 0..sheet.actions(k) {
-        if !is_action_named(sheet, action_at(sheet, k, j)) {
-            return false;
-        }
-    }
-    true
+    (0..sheet.actions(k)).all(|j| is_action_named(sheet, action_at(sheet, k, j)))
 }
 
 // Whether the transition's states and event are there.
@@ -84,42 +76,6 @@ fn is_entry_named(sheet: &Checked<'_>, k: usize) -> bool
     entry_at(sheet, k).event < sheet.interface().inputs
 }
 
-// The first state that has a number that names nothing.
-fn unnamed_state(sheet: &Checked<'_>) -> Option<usize>
-    ensures { MatchOption result (AllByRecursion (AllByRecursion (NamedAction (says sheet.now))) (says sheet.now).states) (First (AllByRecursion (NamedAction (says sheet.now))) (says sheet.now).states) }
-{
-    for k in 0..sheet.count(Item::State) {
-        if !is_state_named(sheet, k) {
-            return Some(k);
-        }
-    }
-    None
-}
-
-// The first transition that has one.
-fn unnamed_transition(sheet: &Checked<'_>) -> Option<usize>
-    ensures { MatchOption result (AllByRecursion (NamedTransition (says sheet.now)) (says sheet.now).transitions) (First (NamedTransition (says sheet.now)) (says sheet.now).transitions) }
-{
-    for k in 0..sheet.count(Item::Transition) {
-        if !is_transition_named(sheet, transition_at(sheet, k)) {
-            return Some(k);
-        }
-    }
-    None
-}
-
-// The first entry that has one.
-fn unnamed_entry(sheet: &Checked<'_>) -> Option<usize>
-    ensures { MatchOption result (AllByRecursion (NamedEntry (says sheet.now)) (says sheet.now).entries) (First (NamedEntry (says sheet.now)) (says sheet.now).entries) }
-{
-    for k in 0..sheet.count(Item::Entry) {
-        if !is_entry_named(sheet, k) {
-            return Some(k);
-        }
-    }
-    None
-}
-
 // The refusal at the field of the k-th of an item.
 fn unnamed(sheet: &Checked<'_>, item: Item, k: usize) -> Refusal
     requires { k < count_of item (says sheet.now) }
@@ -130,19 +86,41 @@ fn unnamed(sheet: &Checked<'_>, item: Item, k: usize) -> Refusal
     }
 }
 
+// The first of n that does not pass the test.
+fn first_failing<F: Fn(usize) -> bool>(n: usize, passes: F) -> Option<usize>
+    requires { (k : ℕ) → k < n → F.pre passes k }
+    ensures { MatchOption result (AllPass (F.post passes) n) (FailsFirst (F.post passes) n) }
+{
+    (0..n).find(
+        |&k|
+            requires { F.pre passes k }
+        { !passes(k) },
+    )
+}
+
+// Whether all of an item name something, by the test for the k-th; the first that does not is refused.
+fn all_named<F: Fn(usize) -> bool>(
+    sheet: &Checked<'_>,
+    item: Item,
+    is_named: F,
+) -> Result<(), Refusal>
+    requires { (k : ℕ) → k < count_of item (says sheet.now) → F.pre is_named k }
+    ensures { MatchResult result (λ _. AllPass (F.post is_named) (count_of item (says sheet.now))) (FailsAt (F.post is_named) sheet.now item) }
+{
+    match first_failing(sheet.count(item), is_named) {
+        Some(k) => Err(unnamed(sheet, item, k)),
+        None => Ok(()),
+    }
+}
+
 // Check 5 of a basic or a service sheet: whether every number names something. The first field that has one that does not is refused.
 // A composite's numbers are not looked at here.
 pub fn names(sheet: &Checked<'_>) -> Result<(), Refusal>
     ensures { Naming sheet.now result }
 {
-    if let Some(k) = unnamed_state(sheet) {
-        return Err(unnamed(sheet, Item::State, k));
-    }
-    if let Some(k) = unnamed_transition(sheet) {
-        return Err(unnamed(sheet, Item::Transition, k));
-    }
-    if let Some(k) = unnamed_entry(sheet) {
-        return Err(unnamed(sheet, Item::Entry, k));
-    }
-    Ok(())
+    all_named(sheet, Item::State, |k| is_state_named(sheet, k))?;
+    all_named(sheet, Item::Transition, |k| {
+        is_transition_named(sheet, transition_at(sheet, k))
+    })?;
+    all_named(sheet, Item::Entry, |k| is_entry_named(sheet, k))
 }
