@@ -8,9 +8,6 @@ ghost use Rattle.order.specs.Ways.{NoCircle, Endless};
 
 // A graph of numbered nodes, told by a ghost relation and the test for a way that is still open.
 pub trait Graph {
-    // what the tests ask for
-    ghost can: { Self → Type 0 };
-
     // the nodes are the numbers below it that `node` holds of
     ghost nodes: { Self → ℕ };
 
@@ -21,18 +18,18 @@ pub trait Graph {
 
     // Whether the number k is a node.
     fn is_node(&self, k: usize) -> bool
-        requires { (can self.now) × (k < nodes self.now) }
+        requires { k < nodes self.now }
         ensures { Decides result (node self.now k) };
 
     // A node that is not marked and to which a way of node k leads; none where all its ways lead to marked nodes.
     fn barred(&self, k: usize, marks: &[bool]) -> Option<usize>
-        requires { (can self.now) × ((node self.now k) × ((k < nodes self.now) × (length marks.now ≡ nodes self.now))) }
+        requires { (node self.now k) × ((k < nodes self.now) × (length marks.now ≡ nodes self.now)) }
         ensures { MatchOption result (Ready (leads self.now) (Marked marks.now) k) (Barred (Below (nodes self.now) (node self.now)) (leads self.now) (Marked marks.now) k) };
 }
 
 // Whether k is an unmarked node.
 fn is_left<G: Graph>(graph: &G, k: usize, marks: &[bool]) -> bool
-    requires { (G.can graph.now) × ((k < length marks.now) × (length marks.now ≡ G.nodes graph.now)) }
+    requires { (k < length marks.now) × (length marks.now ≡ G.nodes graph.now) }
     ensures { Decides result (G.node graph.now k × (Marked marks.now k → ⊥)) }
 {
     graph.is_node(k) && !marks[k]
@@ -40,7 +37,7 @@ fn is_left<G: Graph>(graph: &G, k: usize, marks: &[bool]) -> bool
 
 // The next node to work.
 fn next_node<G: Graph>(graph: &G, marks: &[bool]) -> Option<usize>
-    requires { (G.can graph.now) × (length marks.now ≡ G.nodes graph.now) }
+    requires { length marks.now ≡ G.nodes graph.now }
     ensures { MatchOption result (Stuck (Below (G.nodes graph.now) (G.node graph.now)) (G.leads graph.now) (Marked marks.now)) (Next (Below (G.nodes graph.now) (G.node graph.now)) (G.leads graph.now) (Marked marks.now)) }
 {
     for s in 0..marks.len() {
@@ -65,7 +62,7 @@ fn clear(marks: &mut [bool])
 
 // Marks the nodes that can be worked, writes them in working order, and answers how many there are.
 fn working_order<G: Graph>(graph: &G, marks: &mut [bool], order: &mut [usize]) -> usize
-    requires { (G.can graph.now) × ((length marks.old ≡ G.nodes graph.now) × ((((t : ℕ) → slice_index_or marks.old t false ≡ false)) × (length marks.old ≤ length order.old))) }
+    requires { (length marks.old ≡ G.nodes graph.now) × ((((t : ℕ) → slice_index_or marks.old t false ≡ false)) × (length marks.old ≤ length order.old)) }
     ensures within { result ≤ length order.new }
     ensures order { Order (Below (G.nodes graph.now) (G.node graph.now)) (G.leads graph.now) (take result order.new) }
     ensures marks { MarksOf marks.new (take result order.new) }
@@ -82,7 +79,7 @@ fn working_order<G: Graph>(graph: &G, marks: &mut [bool], order: &mut [usize]) -
 
 // The lowest node that is not marked.
 fn lowest_unmarked<G: Graph>(graph: &G, marks: &[bool]) -> Option<usize>
-    requires { (G.can graph.now) × (length marks.now ≡ G.nodes graph.now) }
+    requires { length marks.now ≡ G.nodes graph.now }
     ensures { MatchOption result ((t : ℕ) → Below (G.nodes graph.now) (G.node graph.now) t → Marked marks.now t) (λ s. Below (G.nodes graph.now) (G.node graph.now) s × ((Marked marks.now s → ⊥) × ((t : ℕ) → t < s → Below (G.nodes graph.now) (G.node graph.now) t → Marked marks.now t))) }
 {
     for t in 0..marks.len() {
@@ -97,7 +94,6 @@ fn lowest_unmarked<G: Graph>(graph: &G, marks: &[bool]) -> Option<usize>
 // It asks for as many marks as there are numbers and for as many rows; what the marks and further rows hold afterwards is free.
 // An order of all nodes says that there is no circle; from a node that cannot be worked there are ways of every length.
 pub fn plan<G: Graph>(graph: &G, marks: &mut [bool], order: &mut [usize]) -> Result<usize, usize>
-    requires can { G.can graph.now }
     requires marks { length marks.old ≡ G.nodes graph.now }
     requires rows { length marks.old ≤ length order.old }
     ensures order { MatchResult result (Planned (Below (G.nodes graph.now) (G.node graph.now)) (G.leads graph.now) order.new) (Unworkable (Below (G.nodes graph.now) (G.node graph.now)) (G.leads graph.now)) }
@@ -123,8 +119,6 @@ mod tests {
     }
 
     impl Graph for Links {
-        ghost can = { λ g. Unit {0} };
-
         ghost nodes = { λ g. 6 };
 
         ghost node = { λ g k. slice_index_or g.here k false ≡ true };

@@ -8,7 +8,7 @@ use Rattle.order.proofs.working_order.Goals as goal
 
 pub loop-s-init : goal.loop-s-init
 loop-s-init g c =
-    let none = c.requires.1.1.0 in
+    let none = c.requires.1.0 in
     (omega (arith, falses_fresh c.args.marks.now none), λ k none'. absurd (omega arith), λ t. (λ m. absurd (clash (sym (none t) ∙ m)), λ h. absurd (omega (arith, h.1))))
 
 pub bounds-marks-s : goal.bounds-marks-s
