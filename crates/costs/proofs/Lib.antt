@@ -2,4 +2,5 @@
 pub mod Interface
 mod Numbers
 mod Writes
+pub mod Segments
 mod JoinLaws

@@ -1,9 +1,11 @@
--- What the crate promises: measures, entries, lists, runs, and the two reducers. Assumes nothing.
+-- What the crate promises: measures, entries, lists, lent rows, runs, and the two reducers. Assumes nothing.
 pub mod Amounts
 pub mod Measures
 pub mod MeasureLaws
 pub mod Entries
 pub mod Lists
+pub mod Forming
+pub mod Lent
 pub mod Runs
 pub mod Reducers
 pub mod Theorems

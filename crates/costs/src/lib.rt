@@ -7,6 +7,7 @@ pub mod entry;
 pub mod join;
 pub mod keep;
 pub mod laws;
+pub mod lists;
 pub mod measure;
 pub mod memory;
 pub mod merge;
