@@ -17,6 +17,7 @@ pub struct Lists<'a, M, const N: usize> {
     pub rows: &'a mut [Entry<M>],
     pub lens: [usize; N],
     pub ghost lent: { Lent rows.now lens },
+    pub ghost all: { length lens ≡ N },
 }
 
 impl<'a, M: Measure, const N: usize> Lists<'a, M, N> {
