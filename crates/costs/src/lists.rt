@@ -1,5 +1,6 @@
 // Lists in lent rows: storing and reading them, reducing to at most 16 entries, and copying rows.
-ghost use Rattle.std.specs.Prelude.{◌≡◌, ℕ, ◌+◌, ◌*◌, ◌<◌, ◌≤◌, ◌++◌, length, take, slice_index};
+ghost use Rattle.std.specs.Prelude.{◌≡◌, ℕ, ◌+◌, ◌*◌, ◌<◌, ◌≤◌, ◌++◌, length, take, slice_index, slice_index_or};
+ghost use Rattle.costs.specs.Entries.{entry_ops};
 ghost use Rattle.costs.specs.Lists.{Sized, Written};
 ghost use Rattle.costs.specs.Forming.{Reduces};
 ghost use Rattle.costs.specs.Lent.{list_at, Lent, Came, Stored};
@@ -79,6 +80,13 @@ pub fn append<M: Measure>(from: &[Entry<M>], into: &mut [Entry<M>], n: usize) ->
     let end = n + from.len();
     into[n..end].copy_from_slice(from);
     end
+}
+
+// Makes every row the zero entry.
+pub fn blank<M: Measure>(rows: &mut [Entry<M>])
+    ensures { (q : ℕ) → slice_index_or rows.new q (entry_ops M.Measure.ops).zero ≡ (entry_ops M.Measure.ops).zero }
+{
+    rows.fill_with(|| Entry::zero());
 }
 
 // Copies the first n rows. The other rows of `out` stay.
