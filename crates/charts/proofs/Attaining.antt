@@ -10,7 +10,7 @@ use Rattle.costs.proofs.Interface.{among_all, among_unjoined, among_unsummed, is
 use Rattle.order.specs.Order.{Complete}
 use Rattle.order.proofs.Induction.{by_order}
 use Rattle.sheets.specs.Sheets.{Sheet}
-use Rattle.charts.specs.Forming.{list}
+use Rattle.costs.specs.Forming.{list}
 use Rattle.charts.specs.Charts.{state_cost, is_free, is_guarded, frees, guarded, State, Leads, Named, NamedTransition}
 use Rattle.charts.specs.Cards.{StateList, EventList}
 use Rattle.charts.specs.Runs.{entered_cost, entered_sends, StateRun, stop, go, BasicRun, ignore, follow}

@@ -10,7 +10,7 @@ use Rattle.costs.specs.declared.entry.Entry.{Entry}
 use Rattle.costs.proofs.Interface.{entry_lawful, among_all, among_joined, length_sums, one_among, some_among, covered_itself, covered_sums, covered_reduced, covered_run, covers_run_as, covers_run_zero, covers_run_both, is_run_covered}
 use Rattle.sheets.specs.Sheets.{Sheet}
 use Rattle.sheets.specs.declared.words.Transition.{Transition}
-use Rattle.charts.specs.Forming.{list}
+use Rattle.costs.specs.Forming.{list}
 use Rattle.charts.specs.Charts.{state_cost, is_free, is_guarded, dests, frees, guarded, State, Named, NamedTransition}
 use Rattle.charts.specs.Cards.{StateList, EventList}
 use Rattle.charts.specs.Runs.{entered_cost, entered_sends, StateRun, stop, go, BasicRun, ignore, follow}

@@ -7,7 +7,8 @@ use Rattle.costs.specs.Entries.{entry_ops}
 use Rattle.costs.specs.Lists.{sums, Computes}
 use Rattle.costs.specs.declared.entry.Entry.{Entry}
 use Rattle.sheets.specs.Sheets.{Sheet}
-use Rattle.charts.specs.Forming.{Formation, list, long, Reduces, Outcome, made, stops, After}
+use Rattle.costs.specs.Forming.{Formation, list, long, Reduces}
+use Rattle.charts.specs.Forming.{Outcome, made, stops, After}
 use Rattle.charts.specs.Charts.{state_cost, frees, guarded, served_entries}
 use Rattle.charts.specs.Cards.{put, no_lists, StateList, EventList, Events, States, BasicCard, ServiceCard}
 use Rattle.charts.specs.Evaluation.{reduced, after, events_by, state_list, event_list, states_by, basic_card, service_card}

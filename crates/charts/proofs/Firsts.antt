@@ -1,5 +1,5 @@
 -- What a search among numbered elements says of the list. Assumes nothing.
-use Rattle.std.proofs.Common.{◌≡◌, ℕ, ◌+◌, ◌<◌, ◌≤◌, Bool, true, false, MatchBool, Decides, List, length, get_or, take, is_some, Some, None, Option, sym, refl, ap, ◌∙◌, subst, zero-add, arith}
+use Rattle.std.proofs.Common.{◌≡◌, ℕ, ◌+◌, ◌<◌, Bool, true, false, MatchBool, Decides, List, length, get_or, take, is_some, Some, None, Option, sym, refl, ap, ◌∙◌, subst, zero-add, arith}
 use borrow.Author.Tests.{clash}
 use Rattle.std.specs.Option.{option_map}
 use Rattle.std.specs.List.{AllByRecursion, AllWithin, HoldsAt, range_with_len}

@@ -9,7 +9,8 @@ use Rattle.sheets.specs.Form.{Form}
 use Rattle.sheets.specs.Sheets.{Sheet}
 use Rattle.sheets.specs.declared.words.Kind.{Kind}
 use Rattle.sheets.specs.declared.words.Kind.TheVariants.{Basic, Service, Composite}
-use Rattle.charts.specs.Forming.{Outcome, made, stops, list, Reduces}
+use Rattle.costs.specs.Forming.{list, Reduces}
+use Rattle.charts.specs.Forming.{Outcome, made, stops}
 use Rattle.charts.specs.Charts.{guarded, served_entries, State, Leads, Named}
 use Rattle.charts.specs.Cards.{EventList, Events, BasicCard, ServiceCard}
 use Rattle.charts.specs.Runs.{RunBy}

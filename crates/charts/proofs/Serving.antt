@@ -8,7 +8,7 @@ use Rattle.costs.specs.declared.entry.Entry.{Entry}
 use Rattle.costs.proofs.Interface.{entry_lawful, covered_itself, covered_reduced, covered_run, is_run_covered}
 use Rattle.sheets.specs.Form.{served}
 use Rattle.sheets.specs.Sheets.{Sheet, Served}
-use Rattle.charts.specs.Forming.{list, Reduces}
+use Rattle.costs.specs.Forming.{list, Reduces}
 use Rattle.charts.specs.Charts.{served_entry, served_entries}
 use Rattle.charts.specs.Runs.{ServiceRun, serve}
 use Rattle.charts.proofs.Costs.{entry_is}

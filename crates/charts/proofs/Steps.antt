@@ -1,5 +1,6 @@
 -- Forming one list, from what the rows hold. Assumes nothing.
 use Rattle.std.proofs.Common.{◌≡◌, ℕ, ◌+◌, ◌<◌, ◌≤◌, Bool, true, false, eqb, List, [], ◌∷◌, ◌++◌, length, get_or, drop, Some, None, Option, sym, refl, ap, ◌∙◌, inl, inr, append_assoc, arith}
+use Rattle.std.specs.Borrow.{Bor}
 use Rattle.std.specs.List.{flat_map}
 use Rattle.std.proofs.lemmas.List.{at_drop_more, length-append}
 use Rattle.std.proofs.lemmas.Bool.{cond-true, cond-false, eq-eqb, ne_eqb}
@@ -9,16 +10,17 @@ use Rattle.costs.specs.Lists.{Among, sums}
 use Rattle.costs.specs.declared.entry.Entry.{Entry}
 use Rattle.sheets.specs.Sheets.{Served}
 use Rattle.sheets.specs.declared.words.Transition.{Transition}
-use Rattle.charts.specs.Forming.{Formation, list, long, Reduces, Outcome, made, stops, After}
+use Rattle.costs.specs.Forming.{Formation, list, long, Reduces}
+use Rattle.charts.specs.Forming.{Outcome, made, stops, After}
 use Rattle.charts.specs.Charts.{dests, served_entry, served_entries}
 use Rattle.charts.specs.Cards.{StateList, EventList}
-use Rattle.charts.specs.Rows.{Came}
+use Rattle.charts.specs.Rows.{Formed}
 use Rattle.charts.proofs.Dests.{dests_hit, dests_miss}
 
 -- what forming came to, under another name
-pub came_as : {X : Type 0} (P Q : Formation X → Type 0) → ((o : Formation X) → P o → Q o) → (rows : List X) (r : Option ℕ) → Came P rows r → Came Q rows r
-came_as P Q to rows None h = to long h
-came_as P Q to rows (Some n) h = record { formed = to _ h.formed; some = h.some; few = h.few }
+pub formed_as : {X : Type 0} (P Q : Formation X → Type 0) → ((o : Formation X) → P o → Q o) → (r : Option (Bor (List X))) → Formed P r → Formed Q r
+formed_as P Q to None h = to long h
+formed_as P Q to (Some es) h = (to (list es.now) h.0, h.1)
 
 -- one list formed, and the rest from there
 pub after_on : {X : Type 0} (P : Formation X → Type 0) (p : ℕ) (Rest : List X → Outcome X → Type 0) (xs : List X) → P (list xs) → (o : Outcome X) → Rest xs o → After P p Rest o

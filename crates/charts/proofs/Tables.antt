@@ -11,7 +11,8 @@ use Rattle.costs.specs.declared.entry.Entry.{Entry}
 use Rattle.costs.proofs.Interface.{length_sums, some_among, among_joined, one_among, all_among}
 use Rattle.order.specs.Order.{Next, Order, Complete, Ready}
 use Rattle.sheets.specs.Sheets.{Sheet}
-use Rattle.charts.specs.Forming.{Formation, list, Reduces, Outcome, made}
+use Rattle.costs.specs.Forming.{Formation, list, Reduces}
+use Rattle.charts.specs.Forming.{Outcome, made}
 use Rattle.charts.specs.Charts.{state_cost, is_free, frees, State, Leads}
 use Rattle.charts.specs.Cards.{put, no_lists, StateList, Events, States}
 use Rattle.charts.proofs.Dests.{few_dests, long_joined, joined_same}

@@ -6,11 +6,13 @@ use Rattle.costs.specs.Amounts.{Amounts}
 use Rattle.costs.specs.declared.entry.Entry.{Entry}
 use Rattle.sheets.specs.Sheets.{Sheet}
 use Rattle.sheets.specs.declared.words.Kind.TheVariants.{Basic}
-use Rattle.charts.specs.Forming.{Formation, list, long, Reduces, Outcome, made, stops}
+use Rattle.costs.specs.Forming.{Formation, list, long, Reduces}
+use Rattle.charts.specs.Forming.{Outcome, made, stops}
 use Rattle.charts.specs.Charts.{state_cost, frees}
 use Rattle.charts.specs.Cards.{put, no_lists, StateList, EventList, EventBy, Events, States, BasicCard}
-use Rattle.charts.specs.Refusals.{list_at, lists_at}
-use Rattle.charts.specs.Rows.{Stored, Working, Listing}
+use Rattle.costs.specs.Lent.{list_at, Stored}
+use Rattle.charts.specs.Refusals.{lists_at}
+use Rattle.charts.specs.Rows.{Working, Listing}
 use Rattle.charts.proofs.Dests.{joined_same}
 use Rattle.charts.proofs.Steps.{after_on}
 use Rattle.charts.proofs.Segments.{lists_more, lists_same}
@@ -30,7 +32,7 @@ module _ {X : Type 0} (P : ℕ → Formation X → Type 0) (all e : ℕ) (z : X)
   pub listing_stop : P e long → Events P all 0 [] (stops (256 + e))
   listing_stop p = was.more (stops (256 + e)) (subst (λ n. Events P n e (lists_at rows lens e 0) (stops (256 + e))) (sym left) (inl (p, refl)))
 
-  pub listing_more : (xs : List X) (rows' : List X) (lens' : List ℕ) → P e (list xs) → Stored xs e rows lens rows' lens' → Listing P all (e + 1) z rows' lens'
+  pub listing_more : (xs : List X) (rows' : List X) (lens' : List ℕ) → P e (list xs) → Stored (λ es. es ≡ xs) e rows lens rows' lens' → Listing P all (e + 1) z rows' lens'
   listing_more xs rows' lens' p stored =
       let same : lists_at rows' lens' (e + 1) 0 ≡ lists_at rows lens e 0 ++ xs ∷ [] =
       lists_more rows' lens' e 0
@@ -91,7 +93,7 @@ module _ {M : Type 0} (ops : Amounts M) (meant : List ℕ → M) (gives : List (
     pub working_stop : StateOf (list_at rows lens) s long → BasicCard ops meant gives sheet ws (stops s)
     working_stop h = was.more (stops s) (inl (over_table long h, refl))
 
-    pub working_more : (xs rows' : List (Entry M)) (lens' : List ℕ) → StateOf (list_at rows lens) s (list xs) → Stored xs s rows lens rows' lens' → Working ops meant gives sheet ws (done ++ s ∷ []) ss rows' lens'
+    pub working_more : (xs rows' : List (Entry M)) (lens' : List ℕ) → StateOf (list_at rows lens) s (list xs) → Stored (λ es. es ≡ xs) s rows lens rows' lens' → Working ops meant gives sheet ws (done ++ s ∷ []) ss rows' lens'
     working_more xs rows' lens' h stored = record {
       lent = stored.lent;
       filled = λ t has. ⊎_elim

@@ -8,7 +8,8 @@ use Rattle.costs.specs.declared.entry.Entry.{Entry}
 use Rattle.sheets.specs.Sheets.{Sheet}
 use Rattle.sheets.specs.declared.words.Kind.{Kind}
 use Rattle.sheets.specs.declared.words.Kind.TheVariants.{Basic, Service, Composite}
-use Rattle.charts.specs.Forming.{Formation, Is, Reduces, Outcome, made, After}
+use Rattle.costs.specs.Forming.{Formation, Is, Reduces}
+use Rattle.charts.specs.Forming.{Outcome, made, After}
 use Rattle.charts.specs.Charts.{state_cost, frees, guarded, served_entries}
 
 -- the table with the list of state s

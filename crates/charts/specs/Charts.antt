@@ -1,6 +1,8 @@
 -- What the sheet of a basic or a service block says: costs of states, where transitions lead, entries of events, and which numbers name something. Assumes nothing.
 use Rattle.std.specs.Prelude.{ℕ, ◌<◌, Bool, true, false, cond, ◌&&◌, List, [], ◌∷◌, length, Some, None, Option, ◌==◌, slice_index_or}
+use Rattle.std.specs.Coded.{Unit-prop, le_prop}
 use Rattle.std.specs.List.{AllByRecursion}
+use Rattle.std.proofs.Props.{props}
 use Rattle.costs.specs.Amounts.{Amounts}
 use Rattle.costs.specs.Entries.{counts_of, no_counts, one_count, entry_ops}
 use Rattle.costs.specs.Lists.{Among}
@@ -119,3 +121,11 @@ pub record Named (sheet : Sheet) : Type 0 where
   pub states : AllByRecursion (AllByRecursion (NamedAction sheet)) sheet.states
   pub transitions : AllByRecursion (NamedTransition sheet) sheet.transitions
   pub entries : AllByRecursion (NamedEntry sheet) sheet.entries
+
+-- each of these facts has one proof at most, so that a struct may keep it
+pub Within-prop : (n : ℕ) (o : Option ℕ) → IsProp (Within n o)
+Within-prop n None = Unit-prop
+Within-prop n (Some k) = le_prop
+
+pub Named-prop : (sheet : Sheet) → IsProp (Named sheet)
+Named-prop sheet = Prim.hlevel (props, Within-prop)

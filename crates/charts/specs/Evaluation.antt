@@ -6,7 +6,8 @@ use Rattle.costs.specs.Entries.{entry_ops}
 use Rattle.costs.specs.Lists.{sums}
 use Rattle.costs.specs.declared.entry.Entry.{Entry}
 use Rattle.sheets.specs.Sheets.{Sheet}
-use Rattle.charts.specs.Forming.{Formation, list, long, Outcome, made, stops}
+use Rattle.costs.specs.Forming.{Formation, list, long}
+use Rattle.charts.specs.Forming.{Outcome, made, stops}
 use Rattle.charts.specs.Charts.{state_cost, frees, guarded, served_entries}
 use Rattle.charts.specs.Cards.{put, no_lists}
 

@@ -1,7 +1,8 @@
 -- Refusals by number, level and place, and what the working of a sheet answers. Assumes nothing.
-use Rattle.std.specs.Prelude.{ℕ, zero, suc, ◌+◌, ◌*◌, List, [], ◌∷◌, take, drop, slice_index}
+use Rattle.std.specs.Prelude.{ℕ, zero, suc, ◌+◌, List, [], ◌∷◌}
 use Rattle.costs.specs.Amounts.{Amounts}
 use Rattle.costs.specs.declared.entry.Entry.{Entry}
+use Rattle.costs.specs.Lent.{list_at}
 use Rattle.order.specs.Order.{Complete, Unworkable}
 use Rattle.order.specs.Ways.{Endless}
 use Rattle.sheets.specs.Sheets.{Sheet}
@@ -51,11 +52,18 @@ RefusedBy ops meant gives sheet kind (Unnamed at) = ⊥
 RefusedBy ops meant gives sheet kind (Circle state) = CircleBy sheet kind state × Endless (Leads sheet) state
 RefusedBy ops meant gives sheet kind (TooLong at) = CardBy ops meant gives sheet kind (stops at)
 
--- the list of event e in a card's rows: 16 rows for each event, of which as many count as its length says
-abbrev pub list_at : {X : Type 0} → List X → List ℕ → ℕ → List X
-list_at rows lens e = take (slice_index lens e) (drop (16 * e) rows)
+-- refusal 8 at a state of which P holds, and refusal 10 at a place of which it holds
+abbrev pub CircleAt : (ℕ → Type 0) → Refusal → Type 0
+CircleAt P (Unnamed at) = ⊥
+CircleAt P (Circle state) = P state
+CircleAt P (TooLong at) = ⊥
 
--- those of n events from event e on
+abbrev pub TooLongAt : (ℕ → Type 0) → Refusal → Type 0
+TooLongAt P (Unnamed at) = ⊥
+TooLongAt P (Circle state) = ⊥
+TooLongAt P (TooLong at) = P at
+
+-- the lists of n events, from event e on, in a card's rows: 16 rows for each event, of which as many count as its length says
 abbrev pub lists_at : {X : Type 0} → List X → List ℕ → ℕ → ℕ → List (List X)
 lists_at rows lens zero e = []
 lists_at rows lens (suc n) e = list_at rows lens e ∷ lists_at rows lens n (e + 1)

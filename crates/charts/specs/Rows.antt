@@ -1,56 +1,31 @@
--- Lists in lent rows: 16 rows for each, of which as many count as its length says. Assumes nothing.
-use Rattle.std.specs.Prelude.{◌≡◌, ℕ, ◌+◌, ◌-◌, ◌*◌, ◌<◌, ◌≤◌, Bool, List, [], length, take, Some, None, Option, ◌≢◌, slice_index, slice_index_or}
+-- The lists of a chart in lent rows: what a forming came to, how far the working has come, and the card. Assumes nothing.
+use Rattle.std.specs.Prelude.{◌≡◌, ℕ, ◌+◌, ◌-◌, ◌*◌, ◌<◌, ◌≤◌, Bool, List, [], Some, None, Option, slice_index, slice_index_or}
+use Rattle.std.specs.Borrow.{Bor}
 use Rattle.std.specs.List.{ContainsAt as Has}
 use Rattle.costs.specs.Amounts.{Amounts}
 use Rattle.costs.specs.Entries.{entry_ops}
+use Rattle.costs.specs.Lists.{Sized}
+use Rattle.costs.specs.Forming.{Formation, list, long}
+use Rattle.costs.specs.Lent.{list_at, Lent, Padded}
 use Rattle.costs.specs.declared.entry.Entry.{Entry}
 use Rattle.sheets.specs.Sheets.{Sheet}
 use Rattle.sheets.specs.declared.words.Kind.{Kind}
 use Rattle.sheets.specs.declared.words.Kind.TheVariants.{Basic}
 use Rattle.sheets.specs.declared.words.Transition.{Transition}
-use Rattle.charts.specs.declared.forming.Pick.{Pick}
-use Rattle.charts.specs.declared.forming.Pick.TheVariants.{Free, Event}
-use Rattle.charts.specs.Charts.{is_free, is_guarded}
-use Rattle.charts.specs.Forming.{Formation, list, long, Outcome, made}
+use Rattle.charts.specs.Forming.{Outcome, made}
 use Rattle.charts.specs.Cards.{Events, States, EventBy, BasicCard}
-use Rattle.charts.specs.Refusals.{list_at, lists_at, CardBy}
+use Rattle.charts.specs.Refusals.{lists_at, CardBy}
 
--- the transitions that are meant: the event-free ones of a state, or those that an event guards
-abbrev pub picks : Pick → Transition → Bool
-picks (Free s) = is_free s
-picks (Event f) = is_guarded f
+-- a test of transitions, by its answers, decides p
+abbrev pub Tests : (Transition → Bool → Type 0) → (Transition → Bool) → Type 0
+Tests answers p = (t : Transition) (b : Bool) → answers t b → b ≡ p t
 
--- room for each list, and no list above 16; one not worked has length 0
-pub record Lent {X : Type 0} (rows : List X) (lens : List ℕ) : Type 0 where
-  pub room : 16 * length lens ≤ length rows
-  pub short : (k : ℕ) → slice_index lens k ≤ 16
+-- what a forming came to: a list of 1 to 16 entries, or a stop at a reduced list above 16
+abbrev pub Formed : {X : Type 0} → (Formation X → Type 0) → Option (Bor (List X)) → Type 0
+Formed P (Some es) = P (list es.now) × Sized es.now
+Formed P None = P long
 
--- forming came to the first n rows
-pub record Listed {X : Type 0} (P : Formation X → Type 0) (rows : List X) (n : ℕ) : Type 0 where
-  pub formed : P (list (take n rows))
-  pub some : 1 ≤ n
-  pub few : n ≤ 16
-
--- what forming came to: the first so many rows, or a stop at a reduced list above 16
-abbrev pub Came : {X : Type 0} → (Formation X → Type 0) → List X → Option ℕ → Type 0
-Came P rows (Some n) = Listed P rows n
-Came P rows None = P long
-
--- list k is now xs, and the others are as they were
-pub record Stored {X : Type 0} (xs : List X) (k : ℕ) (rows : List X) (lens : List ℕ) (rows' : List X) (lens' : List ℕ) : Type 0 where
-  pub lent : Lent rows' lens'
-  pub result : list_at rows' lens' k ≡ xs
-  pub worked : 1 ≤ slice_index lens' k
-  pub others : (t : ℕ) → (t ≢ k) → list_at rows' lens' t ≡ list_at rows lens t
-  pub lengths : (t : ℕ) → (t ≢ k) → slice_index lens' t ≡ slice_index lens t
-  -- all rows but those of the list are as they were
-  pub rest : (q : ℕ) (d : X) → (16 * k ≤ q → q < 16 * k + slice_index lens' k → ⊥) → slice_index_or rows' q d ≡ slice_index_or rows q d
-
--- rows past a list hold x
-abbrev pub Padded : {X : Type 0} → X → List X → List ℕ → Type 0
-Padded x rows lens = (k j : ℕ) → slice_index lens k ≤ j → j < 16 → slice_index_or rows (16 * k + j) x ≡ x
-
--- on a card: eight lists
+-- on a card of eight lists: rows past a list hold x
 abbrev pub PaddedCard : {X : Type 0} → X → List X → List ℕ → Type 0
 PaddedCard x rows lens = (e j : ℕ) → e < 8 → slice_index lens e ≤ j → j < 16 → slice_index_or rows (16 * e + j) x ≡ x
 

@@ -11,104 +11,55 @@ ghost use Rattle.charts.specs.Refusals.{CardBy, RefusedBy, lists_at};
 ghost use Rattle.charts.specs.Rows.{Carded, PaddedCard, Lengths};
 ghost use Rattle.charts.specs.Theorems.{Whole, Covers, Attains, Exact, ExactRefusal};
 
+use crate::graph::Chart;
 use crate::refusal::Refusal;
-use crate::rows::{blank, copy_rows};
-use crate::work::{plan_states, work_events, work_states};
+use crate::room::Room;
 use costs::entry::Entry;
+use costs::lists::{Lists, blank, copy_rows};
 use costs::measure::Measure;
 use costs::reducer::Reducer;
 use sheets::opened::Checked;
 use sheets::words::Kind;
+use std::marker::PhantomData;
 
-// Works the card of a basic block: its states in working order, then its events.
-fn work_basic<M: Measure, R: Reducer<M>>(
-    sheet: &Checked<'_>,
-    marks: &mut [bool],
-    order: &mut [usize],
-    lists: &mut [Entry<M>],
-    lens: &mut [usize],
-    one: &mut [Entry<M>],
-    gathered: &mut [Entry<M>],
-    joined: &mut [Entry<M>],
-    card: &mut [Entry<M>],
-    ends: &mut [usize],
-) -> Result<(), Refusal>
-    requires width { sheet.now.width.bytes ≡ M.Measure.wide }
-    requires named { Named (says sheet.now) }
-    requires kind { (says sheet.now).face.kind ≡ Basic }
-    requires order { (length marks.old ≡ 32) × (length order.old ≡ 32) }
-    requires lists { (512 ≤ length lists.old) × (length lens.old ≡ 32) }
-    requires worked { (t : ℕ) → slice_index lens.old t ≡ 0 }
-    requires one { length one.old ≡ 1 }
-    requires room { (1024 ≤ length gathered.old) × (1024 ≤ length joined.old) }
-    requires card { (128 ≤ length card.old) × (length ends.old ≡ 8) }
-    requires fresh { (e : ℕ) → slice_index ends.old e ≡ 0 }
-    requires blank { (q : ℕ) → slice_index_or card.old q (entry_ops M.Measure.ops).zero ≡ (entry_ops M.Measure.ops).zero }
-    ensures { MatchResult result (λ _. Carded M.Measure.ops M.Measure.meant R.gives (says sheet.now) Basic card.new ends.new) (RefusedBy M.Measure.ops M.Measure.meant R.gives (says sheet.now) Basic) }
-{
-    match plan_states(&*sheet, marks, order) {
-        Err(s) => Err(Refusal::Circle { state: s }),
-        Ok(count) => match work_states::<M, R>(
-            sheet,
-            &order[0..count],
-            lists,
-            lens,
-            one,
-            gathered,
-            joined,
-        ) {
-            Err(s) => Err(Refusal::TooLong { place: s }),
-            Ok(_) => match work_events::<M, R>(
-                sheet,
-                Kind::Basic,
-                lists,
-                lens,
-                gathered,
-                joined,
-                card,
-                ends,
-            ) {
-                Err(p) => Err(Refusal::TooLong { place: p }),
-                Ok(_) => Ok(()),
-            },
-        },
+impl<'a, M: Measure> Chart<'a, M> {
+    // Works the card of a basic block: its states in working order, then its events.
+    fn work_basic<R: Reducer<M>>(
+        &self,
+        lists: &mut Lists<'_, M, 32>,
+        room: &mut Room<'_, M>,
+        card: &mut Lists<'_, M, 8>,
+    ) -> Result<(), Refusal>
+        requires kind { (says self.now.sheet.now).face.kind ≡ Basic }
+        requires worked { (t : ℕ) → slice_index lists.old.lens t ≡ 0 }
+        requires fresh { (e : ℕ) → slice_index card.old.lens e ≡ 0 }
+        requires blank { (q : ℕ) → slice_index_or card.old.rows.now q (entry_ops M.Measure.ops).zero ≡ (entry_ops M.Measure.ops).zero }
+        ensures { MatchResult result (λ _. Carded M.Measure.ops M.Measure.meant R.gives (says self.now.sheet.now) Basic card.new.rows.now card.new.lens) (RefusedBy M.Measure.ops M.Measure.meant R.gives (says self.now.sheet.now) Basic) }
+    {
+        let mut marks = [false; 32];
+        let mut order = [0; 32];
+        let count = self.plan(&mut marks, &mut order)?;
+        self.work_states::<R>(&order[..count], lists, room)?;
+        self.work_events::<R>(lists, room, card)
     }
-}
 
-// Works the card of a block, by its kind; the rows of the card and the lengths are fresh.
-fn work_card<M: Measure, R: Reducer<M>>(
-    sheet: &Checked<'_>,
-    lists: &mut [Entry<M>],
-    one: &mut [Entry<M>],
-    gathered: &mut [Entry<M>],
-    joined: &mut [Entry<M>],
-    card: &mut [Entry<M>],
-    ends: &mut [usize],
-) -> Result<(), Refusal>
-    requires width { sheet.now.width.bytes ≡ M.Measure.wide }
-    requires named { Named (says sheet.now) }
-    requires block { (says sheet.now).face.kind ≢ Composite }
-    requires lists { 512 ≤ length lists.old }
-    requires one { length one.old ≡ 1 }
-    requires room { (1024 ≤ length gathered.old) × (1024 ≤ length joined.old) }
-    requires card { (128 ≤ length card.old) × (length ends.old ≡ 8) }
-    requires fresh { (e : ℕ) → slice_index ends.old e ≡ 0 }
-    ensures { MatchResult result (λ _. Carded M.Measure.ops M.Measure.meant R.gives (says sheet.now) (says sheet.now).face.kind card.new ends.new) (RefusedBy M.Measure.ops M.Measure.meant R.gives (says sheet.now) (says sheet.now).face.kind) }
-{
-    blank(card);
-    let mut lens = [0; 32];
-    match sheet.interface().kind {
-        Kind::Basic => {
-            let mut marks = [false; 32];
-            let mut order = [0; 32];
-            work_basic::<M, R>(
-                sheet, &mut marks, &mut order, lists, &mut lens, one, gathered, joined, card, ends,
-            )
+    // Works the card of a block, by its kind; no list is worked yet, and the rows of the card are blank.
+    fn work_card<R: Reducer<M>>(
+        &self,
+        lists: &mut Lists<'_, M, 32>,
+        room: &mut Room<'_, M>,
+        card: &mut Lists<'_, M, 8>,
+    ) -> Result<(), Refusal>
+        requires block { (says self.now.sheet.now).face.kind ≢ Composite }
+        requires worked { (t : ℕ) → slice_index lists.old.lens t ≡ 0 }
+        requires fresh { (e : ℕ) → slice_index card.old.lens e ≡ 0 }
+        requires blank { (q : ℕ) → slice_index_or card.old.rows.now q (entry_ops M.Measure.ops).zero ≡ (entry_ops M.Measure.ops).zero }
+        ensures { MatchResult result (λ _. Carded M.Measure.ops M.Measure.meant R.gives (says self.now.sheet.now) (says self.now.sheet.now).face.kind card.new.rows.now card.new.lens) (RefusedBy M.Measure.ops M.Measure.meant R.gives (says self.now.sheet.now) (says self.now.sheet.now).face.kind) }
+    {
+        match self.sheet.interface().kind {
+            Kind::Basic => self.work_basic::<R>(lists, room, card),
+            _ => self.work_events::<R>(lists, room, card),
         }
-        kind => match work_events::<M, R>(sheet, kind, lists, &lens, gathered, joined, card, ends) {
-            Err(p) => Err(Refusal::TooLong { place: p }),
-            Ok(_) => Ok(()),
-        },
     }
 }
 
@@ -133,13 +84,17 @@ pub fn card<M: Measure, R: Reducer<M>>(
     ensures attained { IfOk result (λ lens. Selects R.Reducer.gives → Attains M.Measure.ops M.Measure.meant (says sheet.now) (lists_at out.new lens (says sheet.now).face.inputs 0)) }
     ensures exact { MatchResult result (λ lens. Exact M.Measure.ops M.Measure.meant R.Reducer.gives (says sheet.now) (made (lists_at out.new lens (says sheet.now).face.inputs 0))) (ExactRefusal M.Measure.ops M.Measure.meant R.Reducer.gives (says sheet.now)) }
 {
+    let chart = Chart {
+        sheet: &*sheet,
+        measure: PhantomData,
+    };
     let (lists, rest) = rows.split_at_mut(512);
-    let (gathered, rest) = rest.split_at_mut(1024);
-    let (joined, rest) = rest.split_at_mut(1024);
     let (card, rest) = rest.split_at_mut(128);
-    let (one, _) = rest.split_at_mut(1);
-    let mut ends = [0; 8];
-    work_card::<M, R>(sheet, lists, one, gathered, joined, card, &mut ends)?;
-    copy_rows(card, 128, out);
-    Ok(ends)
+    blank(card);
+    let mut lists = Lists::new(lists);
+    let mut card = Lists::new(card);
+    chart.work_card::<R>(&mut lists, &mut Room::new(rest), &mut card)?;
+    let Lists { rows, lens } = card;
+    copy_rows(rows, 128, out);
+    Ok(lens)
 }

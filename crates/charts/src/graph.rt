@@ -1,21 +1,29 @@
-// The states of a chart as a graph: its event-free transitions.
-ghost use Rattle.std.specs.Prelude.{◌≡◌, ℕ, ◌<◌, ◌≤◌, true, false, length, Decides, MatchOption};
+// The chart of a block as a graph: its states, and its event-free transitions.
+ghost use Rattle.std.specs.Prelude.{◌≡◌, ℕ, ◌<◌, ◌≤◌, true, false, length, Decides, MatchOption, slice_index_or};
 ghost use Rattle.order.specs.Order.{Marked, Ready, Barred, Below};
-ghost use Rattle.charts.specs.Charts.{no_event, event_is, is_free, Named, Leads};
+ghost use Rattle.charts.specs.Charts.{no_event, is_free, no_transition, Named, Named-prop, State, Leads};
 ghost use Rattle.charts.specs.Naming.{says};
 
 use crate::names::transition_at;
+use costs::measure::Measure;
 use order::Graph;
 use sheets::opened::Checked;
 use sheets::words::{Item, Transition};
+use std::marker::PhantomData;
+
+// The chart of a basic or a service block: a sheet whose numbers all name something and whose amounts are as wide as the measure's.
+#[derive(Drop)]
+pub(crate) struct Chart<'a, M: Measure> {
+    pub(crate) sheet: &'a Checked<'a>,
+    pub(crate) measure: PhantomData<M>,
+    ghost width: { sheet.now.width.bytes ≡ M.Measure.wide },
+    ghost named: { Named (says sheet.now) } by { Named-prop (says sheet.now) },
+}
 
 pub(crate) fn is_free(transition: Transition, s: usize) -> bool
     ensures { result ≡ is_free s transition }
 {
-    match transition.event {
-        None => transition.source as usize == s,
-        Some(_) => false,
-    }
+    transition.event.is_none() && usize::from(transition.source) == s
 }
 
 // Whether an event-free transition of s leads to a state that is not marked.
@@ -23,33 +31,21 @@ fn is_barred(transition: Transition, s: usize, marks: &[bool]) -> bool
     requires { transition.destination < length marks.now }
     ensures { Decides result ((is_free s transition ≡ true) × (Marked marks.now transition.destination → ⊥)) }
 {
-    is_free(transition, s) && !marks[transition.destination as usize]
+    is_free(transition, s) && !marks[usize::from(transition.destination)]
 }
 
-// A state that is not marked and to which an event-free transition of state k leads.
-fn barred_way(sheet: &Checked<'_>, k: usize, marks: &[bool]) -> Option<usize>
-    requires named { Named (says sheet.now) }
-    requires marks { length marks.now ≡ length (says sheet.now).states }
-    ensures { MatchOption result (Ready (Leads (says sheet.now)) (Marked marks.now) k) (Barred (Below (length (says sheet.now).states) (λ _. Unit {0})) (Leads (says sheet.now)) (Marked marks.now) k) }
-{
-    for t in 0..sheet.count(Item::Transition) {
-        let transition = transition_at(sheet, t);
-        if is_barred(transition, k, marks) {
-            return Some(transition.destination as usize);
-        }
+impl<'a, M: Measure> Chart<'a, M> {
+    // Transition t; it leads to a state.
+    pub(crate) fn transition(&self, t: usize) -> Transition
+        requires { t < length (says self.now.sheet.now).transitions }
+        ensures is { result ≡ slice_index_or (says self.now.sheet.now).transitions t no_transition }
+        ensures state { State (says self.now.sheet.now) result.destination }
+    {
+        transition_at(self.sheet, t)
     }
-    None
 }
 
-// The chart of a basic sheet.
-#[derive(Clone, Copy)]
-pub(crate) struct Chart<'a> {
-    pub(crate) sheet: &'a Checked<'a>,
-}
-
-impl<'a> Graph for Chart<'a> {
-    ghost can = { λ g. Named (says g.sheet.now) };
-
+impl<'a, M: Measure> Graph for Chart<'a, M> {
     ghost nodes = { λ g. length (says g.sheet.now).states };
 
     ghost node = { λ g k. Unit {0} };
@@ -61,6 +57,9 @@ impl<'a> Graph for Chart<'a> {
     }
 
     fn barred(&self, k: usize, marks: &[bool]) -> Option<usize> {
-        barred_way(self.sheet, k, marks)
+        (0..self.sheet.count(Item::Transition))
+            .map(|t| self.transition(t))
+            .find(|transition| is_barred(*transition, k, marks))
+            .map(|transition| usize::from(transition.destination))
     }
 }

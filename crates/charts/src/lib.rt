@@ -7,5 +7,5 @@ mod forming;
 mod graph;
 pub mod names;
 pub mod refusal;
-mod rows;
+mod room;
 mod work;
