@@ -1,32 +1,17 @@
-// The calls of a journal, made: ticks with keep.
-ghost use Rattle.std.specs.Prelude.{◌≡◌, min, length, take};
-ghost use Rattle.costs.specs.declared.ticks.Ticks.{Ticks};
-ghost use Rattle.library.specs.Books.{Book};
-ghost use Rattle.library.specs.Calls.{asks, replies};
-ghost use Rattle.library.specs.Law.{Sound};
-ghost use Rattle.library.specs.Steps.{History};
-ghost use Rattle.library.specs.Tables.{sizes_of};
-ghost use Rattle.journal.specs.Laws.{tick_rules, Lawful};
+// A journal: ticks with keep.
+ghost use Rattle.std.specs.Prelude.{IfOk, string_bytes};
+ghost use Rattle.files.specs.Laws.{ticks_keep, ticks_text};
+ghost use Rattle.files.specs.Printing.{PrintedLawfully};
 
-use costs::entry::Entry;
 use costs::keep::Keep;
 use costs::ticks::Ticks;
-use library::calls::{Answer, Call};
-use library::replay::replay;
-use library::row::Row;
+use files::form::Form;
+use files::session::session;
+use std::alloc::{AllocError, Global};
 
-// Makes the calls on an empty library, as many as there is room for answers; how many is answered.
-pub fn run(
-    shelf: &mut [u8],
-    index: &mut [Row],
-    cards: &mut [Entry<Ticks>],
-    rows: &mut [Entry<Ticks>],
-    out: &mut [Entry<Ticks>],
-    calls: &[Call<'_>],
-    answers: &mut [Answer],
-) -> usize
-    ensures count { result ≡ min (length calls.now) (length answers.old) }
-    ensures law { (b : Book Ticks) × (History tick_rules (sizes_of shelf.old index.old cards.old) (asks (length rows.old) (length out.old) (take result calls.now)) (replies (take result calls.now) (take result answers.new) out.new) b × (Sound tick_rules b index.new cards.new × Lawful b index.new cards.new)) }
+// All that a journal's file prints, with the law of its library without a premise.
+pub fn run(heap: Global, bytes: &[u8]) -> Result<String, AllocError>
+    ensures { IfOk result (λ s. PrintedLawfully ticks_keep ticks_text Form.Journal bytes.now (string_bytes s)) }
 {
-    replay::<Ticks, Keep>(shelf, index, cards, rows, out, calls, answers)
+    session::<Ticks, Keep>(heap, Form::Journal, bytes)
 }

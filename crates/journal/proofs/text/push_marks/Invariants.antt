@@ -1,6 +1,0 @@
-use Rattle.std.proofs.Common.{◌≡◌, ◌++◌, take, drop, string_bytes}
-use Rattle.journal.specs.Lines.{mark_lines}
-use Rattle.journal.proofs.text.push_marks.Given as goal
-
-abbrev pub invariant-loop-n : goal.invariant-loop-n
-invariant-loop-n l = string_bytes l.text ++ mark_lines l.n (drop l.n (take 64 l.index)) ≡ string_bytes l.initial.text ++ mark_lines 0 (take 64 l.index)
