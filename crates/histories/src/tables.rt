@@ -10,7 +10,7 @@ use library::refusal::Refusal;
 use library::retime::retime;
 use library::rework::rework;
 use library::row::Row;
-use listing::told::tell;
+use listing::told::Told;
 use std::alloc::{AllocError, Global};
 use std::process::Abort;
 use std::test::Fail;
@@ -106,11 +106,12 @@ pub(crate) fn refused<T: Copy>(
             Ok(())
         },
         Err(e) => {
-            let told = tell(e);
-            assert_eq!(rt;
-                [told.number, told.level, told.place],
-                [number, level, place]
-            );
+            let wanted = Told {
+                number,
+                level,
+                place,
+            };
+            assert_eq!(rt; Told::from(e), wanted);
             Ok(())
         }
     }

@@ -8,7 +8,7 @@ ghost use Rattle.listing.specs.Answers.{tag_of, outputs_of, outputs_asked, event
 use crate::amount::Spelt;
 use crate::cards::{push_card, push_list};
 use crate::lines::push_words;
-use crate::told::tell;
+use crate::told::Told;
 use costs::entry::Entry;
 use costs::measure::Measure;
 use library::calls::{Answer, Call};
@@ -96,7 +96,7 @@ fn push_numbers(
 {
     let first = spell_number(heap, tag)?;
     text.push_str(first.as_str())?;
-    push_words(heap, text, numbers)?;
+    push_words(text, numbers)?;
     text.push_str("\n")?;
     Ok(())
 }
@@ -106,7 +106,7 @@ fn push_word(heap: Global, text: &mut String, word: &str, n: usize) -> Result<()
     ensures { OnOk result (string_bytes text.new ≡ string_bytes text.old ++ word_line word.now n) }
 {
     text.push_str(word)?;
-    push_words(heap, text, &[n])?;
+    push_words(text, &[n])?;
     text.push_str("\n")?;
     Ok(())
 }
@@ -120,7 +120,7 @@ fn push_refused(
 ) -> Result<(), AllocError>
     ensures { OnOk result (string_bytes text.new ≡ string_bytes text.old ++ refusal_line tag (as_told refusal)) }
 {
-    let told = tell(refusal);
+    let told = Told::from(refusal);
     push_numbers(heap, text, tag, &[told.number, told.level, told.place])?;
     Ok(())
 }

@@ -23,8 +23,8 @@ fn push_row<M: Spelt>(
     ensures { OnOk result (string_bytes text.new ≡ string_bytes text.old ++ row_line M.Spelt.text word.now block event at entry outputs) }
 {
     match block {
-        Some(n) => push_entry(heap, text, word, &[n, event, at], entry, outputs),
-        None => push_entry(heap, text, word, &[event, at], entry, outputs),
+        Some(n) => push_entry(text, word, &[n, event, at], entry, outputs),
+        None => push_entry(text, word, &[event, at], entry, outputs),
     }
 }
 

@@ -4,39 +4,37 @@ ghost use Rattle.listing.specs.Lines.{words, entry_line};
 
 use crate::amount::Spelt;
 use costs::entry::Entry;
-use std::alloc::{AllocError, Global};
+use std::alloc::AllocError;
 
 // One number more, behind a blank.
-fn push_word(heap: Global, text: &mut String, n: usize) -> Result<(), AllocError>
+fn push_word(text: &mut String, n: usize) -> Result<(), AllocError>
     ensures { OnOk result (string_bytes text.new ≡ string_bytes text.old ++ words (n ∷ [])) }
 {
-    let word = format!(in heap; " {n}")?;
-    text.push_str(word.as_str())
+    write!(text, " {n}")
 }
 
 // Numbers, each behind a blank.
-pub fn push_words(heap: Global, text: &mut String, numbers: &[usize]) -> Result<(), AllocError>
+pub fn push_words(text: &mut String, numbers: &[usize]) -> Result<(), AllocError>
     ensures { OnOk result (string_bytes text.new ≡ string_bytes text.old ++ words numbers.now) }
 {
     for n in numbers {
-        push_word(heap, text, *n)?;
+        write!(text, " {n}")?;
     }
     Ok(())
 }
 
 // Counts, each behind a blank.
-fn push_counts(heap: Global, text: &mut String, counts: &[u8]) -> Result<(), AllocError>
+fn push_counts(text: &mut String, counts: &[u8]) -> Result<(), AllocError>
     ensures { OnOk result (string_bytes text.new ≡ string_bytes text.old ++ words counts.now) }
 {
     for n in counts {
-        push_word(heap, text, *n as usize)?;
+        write!(text, " {n}")?;
     }
     Ok(())
 }
 
 // The line about an entry of a block with so many outputs, eight at most.
 pub fn push_entry<M: Spelt>(
-    heap: Global,
     text: &mut String,
     word: &str,
     numbers: &[usize],
@@ -45,12 +43,9 @@ pub fn push_entry<M: Spelt>(
 ) -> Result<(), AllocError>
     ensures { OnOk result (string_bytes text.new ≡ string_bytes text.old ++ entry_line M.Spelt.text word.now numbers.now entry outputs) }
 {
-    text.push_str(word)?;
-    push_words(heap, text, numbers)?;
-    let amount = entry.amount.spell(heap)?;
-    text.push_str(" ")?;
-    text.push_str(amount.as_str())?;
-    push_counts(heap, text, &entry.counts.at[0..outputs.min(8)])?;
-    text.push_str("\n")?;
-    Ok(())
+    write!(text, "{word}")?;
+    push_words(text, numbers)?;
+    write!(text, " {}", entry.amount)?;
+    push_counts(text, &entry.counts.at[0..outputs.min(8)])?;
+    writeln!(text)
 }

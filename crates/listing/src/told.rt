@@ -10,81 +10,65 @@ use networks::refusal::Refusal as NetworkRefusal;
 use sheets::refusal::Refusal as SheetRefusal;
 
 // A refusal by its number, level and place.
-#[derive(Clone, Copy)]
+#[derive(Clone, Copy, PartialEq, Eq, Debug)]
 pub struct Told {
     pub number: usize,
     pub level: usize,
     pub place: usize,
 }
 
-fn tell_sheet(refusal: SheetRefusal) -> Told
-    ensures { Tells result (by_sheet refusal) }
-{
-    match refusal {
-        SheetRefusal::Cut { at } => Told {
-            number: 1,
+// Of a sheet's bytes: level 1.
+impl From<SheetRefusal> for Told {
+    ghost from_gives = { λ e t. Tells t (by_sheet e) };
+
+    fn from(refusal: SheetRefusal) -> Told {
+        let (number, place) = match refusal {
+            SheetRefusal::Cut { at } => (1, at),
+            SheetRefusal::Grammar { at } => (2, at),
+        };
+        Told {
+            number,
             level: 1,
-            place: at,
-        },
-        SheetRefusal::Grammar { at } => Told {
-            number: 2,
-            level: 1,
-            place: at,
-        },
+            place,
+        }
     }
 }
 
-fn tell_chart(refusal: ChartRefusal) -> Told
-    ensures { Tells result (by_chart refusal) }
-{
-    match refusal {
-        ChartRefusal::Unnamed { at } => Told {
-            number: 5,
-            level: 1,
-            place: at,
-        },
-        ChartRefusal::Circle { state } => Told {
-            number: 8,
-            level: 2,
-            place: state,
-        },
-        ChartRefusal::TooLong { place } => Told {
-            number: 10,
-            level: 2,
+// Of a chart: level 1 where it is seen in the sheet, and else 2.
+impl From<ChartRefusal> for Told {
+    ghost from_gives = { λ e t. Tells t (by_chart e) };
+
+    fn from(refusal: ChartRefusal) -> Told {
+        let (number, level, place) = match refusal {
+            ChartRefusal::Unnamed { at } => (5, 1, at),
+            ChartRefusal::Circle { state } => (8, 2, state),
+            ChartRefusal::TooLong { place } => (10, 2, place),
+        };
+        Told {
+            number,
+            level,
             place,
-        },
+        }
     }
 }
 
-fn tell_network(refusal: NetworkRefusal) -> Told
-    ensures { Tells result (by_network refusal) }
-{
-    match refusal {
-        NetworkRefusal::Unnamed { at } => Told {
-            number: 5,
-            level: 1,
-            place: at,
-        },
-        NetworkRefusal::Repeated { at } => Told {
-            number: 6,
-            level: 1,
-            place: at,
-        },
-        NetworkRefusal::Circle { place } => Told {
-            number: 8,
-            level: 3,
+// Of a network: level 1 where it is seen in the sheet, and else 3.
+impl From<NetworkRefusal> for Told {
+    ghost from_gives = { λ e t. Tells t (by_network e) };
+
+    fn from(refusal: NetworkRefusal) -> Told {
+        let (number, level, place) = match refusal {
+            NetworkRefusal::Unnamed { at } => (5, 1, at),
+            NetworkRefusal::Repeated { at } => (6, 1, at),
+            NetworkRefusal::Circle { place } => (8, 3, place),
+            NetworkRefusal::Full { place } => (9, 3, place),
+            NetworkRefusal::TooLong { place } => (10, 3, place),
+        };
+        Told {
+            number,
+            level,
             place,
-        },
-        NetworkRefusal::Full { place } => Told {
-            number: 9,
-            level: 3,
-            place,
-        },
-        NetworkRefusal::TooLong { place } => Told {
-            number: 10,
-            level: 3,
-            place,
-        },
+        }
     }
 }
 
@@ -101,38 +85,25 @@ fn table_place(table: Table) -> usize
     }
 }
 
-// What is told of a refusal of the library, or of a layer beneath it.
-pub fn tell(refusal: Refusal) -> Told
-    ensures { Tells result (as_told refusal) }
-{
-    match refusal {
-        Refusal::Sheet(e) => tell_sheet(e),
-        Refusal::Width { given } => Told {
-            number: 2,
-            level: 4,
-            place: given,
-        },
-        Refusal::NoBlock { place } => Told {
-            number: 3,
+// Of the library, level 4, or of a layer beneath it.
+impl From<Refusal> for Told {
+    ghost from_gives = { λ e t. Tells t (as_told e) };
+
+    fn from(refusal: Refusal) -> Told {
+        let (number, place) = match refusal {
+            Refusal::Sheet(e) => return Told::from(e),
+            Refusal::Chart(e) => return Told::from(e),
+            Refusal::Network(e) => return Told::from(e),
+            Refusal::Width { given } => (2, given),
+            Refusal::NoBlock { place } => (3, place),
+            Refusal::OutOfDate { place } => (4, place),
+            Refusal::NoNumber { number } => (5, number),
+            Refusal::NoRoom { table } => (7, table_place(table)),
+        };
+        Told {
+            number,
             level: 4,
             place,
-        },
-        Refusal::OutOfDate { place } => Told {
-            number: 4,
-            level: 4,
-            place,
-        },
-        Refusal::Chart(e) => tell_chart(e),
-        Refusal::Network(e) => tell_network(e),
-        Refusal::NoNumber { number } => Told {
-            number: 5,
-            level: 4,
-            place: number,
-        },
-        Refusal::NoRoom { table } => Told {
-            number: 7,
-            level: 4,
-            place: table_place(table),
-        },
+        }
     }
 }
