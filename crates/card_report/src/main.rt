@@ -5,7 +5,7 @@
 mod run;
 mod words;
 
-use anyhow::anyhow;
+use anyhow::Context;
 use run::run;
 use std::env;
 use std::io::Read;
@@ -13,15 +13,11 @@ use words::Words;
 
 fn report(rt: &HostRuntime) -> anyhow::Result<()> {
     let heap = rt.alloc();
-    let mut words = Words {
-        memory: false,
-        merge: false,
-    };
+    let mut words = Words::default();
     for word in env::args(rt)?.skip(1) {
-        let Some(more) = words.with(word.as_str()) else {
-            return Err(anyhow!("the words are memory and merge"));
-        };
-        words = more;
+        words = words
+            .with(word.as_str())
+            .context("the words are memory and merge")?;
     }
     let mut file = Vec::new(heap);
     rt.stdin().read_to_end(&mut file)?;

@@ -15,15 +15,10 @@ use std::alloc::{AllocError, Global};
 pub fn run(heap: Global, words: Words, bytes: &[u8]) -> Result<String, AllocError>
     ensures { IfOk result (λ s. Reported words.memory words.merge bytes.now (string_bytes s)) }
 {
-    if words.memory {
-        if words.merge {
-            session::<Memory, Merge>(heap, Form::Report, bytes)
-        } else {
-            session::<Memory, Keep>(heap, Form::Report, bytes)
-        }
-    } else if words.merge {
-        session::<Ticks, Merge>(heap, Form::Report, bytes)
-    } else {
-        session::<Ticks, Keep>(heap, Form::Report, bytes)
+    match (words.memory, words.merge) {
+        (false, false) => session::<Ticks, Keep>(heap, Form::Report, bytes),
+        (false, true) => session::<Ticks, Merge>(heap, Form::Report, bytes),
+        (true, false) => session::<Memory, Keep>(heap, Form::Report, bytes),
+        (true, true) => session::<Memory, Merge>(heap, Form::Report, bytes),
     }
 }

@@ -2,7 +2,8 @@
 ghost use Rattle.std.specs.Prelude.{◌≡◌, true, Some, None, codes, ◌≢◌};
 ghost use Rattle.card_report.specs.declared.words.Words.{Words};
 
-#[derive(Clone, Copy)]
+// Which of the words stand on the command line: two flags, for each word stands there or not, whatever the other does.
+#[derive(Clone, Copy, Default)]
 pub struct Words {
     // memory in place of ticks
     pub memory: bool,
@@ -20,11 +21,11 @@ impl Words {
         match word {
             "memory" => Some(Words {
                 memory: true,
-                merge: self.merge,
+                ..self
             }),
             "merge" => Some(Words {
-                memory: self.memory,
                 merge: true,
+                ..self
             }),
             _ => None,
         }

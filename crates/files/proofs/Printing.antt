@@ -1,6 +1,7 @@
--- Texts put after one another, and the parts of a session put together. Assumes nothing.
-use Rattle.std.proofs.Common.{◌≡◌, ℕ, ◌-◌, ◌^◌, min, List, [], ◌++◌, map, length, take, ap, ◌∙◌, subst, append_assoc, arith}
+-- The parts of a session put together, and its law with no premise left. Assumes nothing.
+use Rattle.std.proofs.Common.{◌≡◌, ℕ, ◌-◌, ◌^◌, min, List, map, length, take, Result, IfOk, subst, arith}
 use Rattle.std.proofs.lemmas.List.{take_all}
+use Rattle.std.proofs.lemmas.Result.{IfOk-weaker}
 use Rattle.costs.specs.Lists.{Selects}
 use Rattle.costs.specs.declared.entry.Entry.{Entry}
 use Rattle.library.specs.Books.{Rules, Book}
@@ -15,15 +16,9 @@ use Rattle.library.specs.declared.calls.Call.{Call}
 use Rattle.library.specs.declared.row.Row.{Row}
 use Rattle.sheets.specs.Frames.{fields}
 use Rattle.files.specs.Files.{made_of, calls_of, end_of, rows_asked, room_of}
+use Rattle.files.specs.Laws.{Lawful}
 use Rattle.files.specs.Printing.{file_lines, Carried, Printed, PrintedLawfully}
 use Rattle.files.specs.declared.form.Form.{Form}
-use Rattle.listing.proofs.Answering.{two_more, three_more}
-
--- four texts after nothing
-pub four_texts : (t t₁ t₂ t₃ t₄ a b c d : List ℕ) → t ≡ [] → t₁ ≡ t ++ a → t₂ ≡ t₁ ++ b → t₃ ≡ t₂ ++ c → t₄ ≡ t₃ ++ d → t₄ ≡ a ++ (b ++ (c ++ d))
-four_texts t t₁ t₂ t₃ t₄ a b c d none p q r s =
-    two_more t t₃ t₄ (a ++ (b ++ c)) d (three_more t t₁ t₂ t₃ a b c p q r) s
-    ∙ ap (λ l. l ++ ((a ++ (b ++ c)) ++ d)) none ∙ append_assoc a (b ++ c) d ∙ ap (λ l. a ++ l) (append_assoc b c d)
 
 module _ {M : Type 0} {rules : Rules M} {spelt : M → List ℕ} {form : Form} {sizes : Sizes} {rows lent : ℕ} {calls : List Call} {end total : ℕ} {text : List ℕ} where
   -- all calls were made, for there is an answer to each
@@ -59,6 +54,12 @@ pub printed : {M : Type 0} {rules : Rules M} {spelt : M → List ℕ} {form : Fo
     → Carried rules spelt form (room_of form) 3072 (min (rows_asked calls) (2 ^ 64 - 1)) calls (end_of form 0 (fields bytes)) (length bytes) text → Printed rules spelt form bytes text
 printed bytes text calls asked carried = record { calls = calls; asked = asked; carried = carried }
 
--- where the reducer selects, the law needs no premise
-pub lawfully : {M : Type 0} {by : Rules M} {spelt : M → List ℕ} {form : Form} {bytes text : List ℕ} → Selects by.gives → Printed by spelt form bytes text → PrintedLawfully by spelt form bytes text
-lawfully selects p = let law = p.carried.sound in (p, record { covers = law.covers; marked = law.marked; attained = law.attained selects })
+-- where the reducer selects, tables that keep the law keep it with no premise left
+pub lawful : {M : Type 0} {by : Rules M} {b : Book M} {index : List Row} {cards : List (Entry M)} → Selects by.gives → Sound by b index cards → Lawful by b index cards
+lawful selects law = record { covers = law.covers; marked = law.marked; attained = law.attained selects }
+
+-- and so what is printed comes with the law
+pub printed_lawfully : {M S E : Type 0} (by : Rules M) (spelt : M → List ℕ) (form : Form) (bytes : List ℕ) (bytes_of : S → List ℕ) (r : Result S E) → Selects by.gives
+    → IfOk r (λ s. Printed by spelt form bytes (bytes_of s)) → IfOk r (λ s. PrintedLawfully by spelt form bytes (bytes_of s))
+printed_lawfully by spelt form bytes bytes_of r selects =
+    IfOk-weaker r (λ s. Printed by spelt form bytes (bytes_of s)) (λ s. PrintedLawfully by spelt form bytes (bytes_of s)) (λ s p. (p, lawful selects p.carried.sound))

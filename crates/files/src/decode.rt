@@ -117,9 +117,7 @@ pub(crate) fn decode<'a>(
 pub(crate) fn rows_taken(calls: &[Call<'_>]) -> usize
     ensures { result ≡ min (rows_asked calls.now) (2 ^ 64 - 1) }
 {
-    let mut n: usize = 0;
-    for i in 0..calls.len() {
-        n = n.saturating_add(calls[i].taken(usize::MAX));
-    }
-    n
+    calls
+        .iter()
+        .fold(0usize, |n, call| n.saturating_add(call.taken(usize::MAX)))
 }

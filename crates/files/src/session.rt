@@ -33,12 +33,12 @@ fn unused_row() -> Row
 }
 
 // A journal's marks; a report prints none.
-fn push_form(heap: Global, text: &mut String, form: Form, index: &[Row]) -> Result<(), AllocError>
+fn push_form(text: &mut String, form: Form, index: &[Row]) -> Result<(), AllocError>
     ensures { OnOk result (string_bytes text.new ≡ string_bytes text.old ++ marks_in form index.now) }
 {
     match form {
         Form::Report => Ok(()),
-        Form::Journal => push_marks(heap, text, index),
+        Form::Journal => push_marks(text, index),
     }
 }
 
@@ -57,10 +57,10 @@ fn print<M: Spelt>(
     ensures { IfOk result (λ s. string_bytes s ≡ file_lines M.Spelt.text M.Measure.wide form end total calls.now answers.now out.now index.now cards.now) }
 {
     let mut text = String::new(heap);
-    push_answers(heap, &mut text, index, calls, answers, out)?;
-    push_fault(heap, &mut text, end, total)?;
-    push_form(heap, &mut text, form, index)?;
-    push_cards(heap, &mut text, index, cards)?;
+    push_answers(&mut text, index, calls, answers, out)?;
+    push_fault(&mut text, end, total)?;
+    push_form(&mut text, form, index)?;
+    push_cards(&mut text, index, cards)?;
     Ok(text)
 }
 

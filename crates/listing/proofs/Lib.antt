@@ -1,4 +1,3 @@
 -- Lemmas on lines. Assumes nothing.
-pub mod Spelling
 pub mod Listing
 pub mod Answering

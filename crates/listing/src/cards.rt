@@ -1,5 +1,5 @@
 // The lines of lists and cards that stand in rows.
-ghost use Rattle.std.specs.Prelude.{◌≡◌, ◌<◌, ◌++◌, take, drop, string_bytes, OnOk, slice_index};
+ghost use Rattle.std.specs.Prelude.{◌≡◌, ◌<◌, ◌++◌, take, drop, string_bytes, OnOk};
 ghost use Rattle.networks.specs.Rows.{list_at};
 ghost use Rattle.listing.specs.Cards.{row_line, list_lines, card_lines, block_lines, rows_lines};
 
@@ -7,143 +7,122 @@ use crate::amount::Spelt;
 use crate::lines::push_entry;
 use costs::entry::Entry;
 use library::row::Row;
-use std::alloc::{AllocError, Global};
+use std::alloc::AllocError;
 
-// The line of one entry: the block, where it is told, the event, the position, the amount and the counts.
-fn push_row<M: Spelt>(
-    heap: Global,
-    text: &mut String,
-    word: &str,
-    block: Option<usize>,
-    event: usize,
-    at: usize,
-    entry: Entry<M>,
-    outputs: usize,
-) -> Result<(), AllocError>
-    ensures { OnOk result (string_bytes text.new ≡ string_bytes text.old ++ row_line M.Spelt.text word.now block event at entry outputs) }
+// The first n, or all if there are fewer.
+pub(crate) fn front<T>(xs: &[T], n: usize) -> &[T]
+    ensures { result.now ≡ take n xs.now }
 {
-    match block {
-        Some(n) => push_entry(text, word, &[n, event, at], entry, outputs),
-        None => push_entry(text, word, &[event, at], entry, outputs),
-    }
+    &xs[..n.min(xs.len())]
 }
 
-// The lines of a list.
-pub fn push_list<M: Spelt>(
-    heap: Global,
-    text: &mut String,
-    word: &str,
-    block: Option<usize>,
-    event: usize,
-    list: &[Entry<M>],
-    outputs: usize,
-) -> Result<(), AllocError>
-    ensures { OnOk result (string_bytes text.new ≡ string_bytes text.old ++ list_lines M.Spelt.text word.now block event outputs 0 list.now) }
+// Those from one on; none if there are fewer.
+fn rest_from<T>(xs: &[T], at: usize) -> &[T]
+    ensures { result.now ≡ drop at xs.now }
 {
-    for (at, entry) in list.iter().enumerate() {
-        push_row(heap, text, word, block, event, at, *entry, outputs)?;
-    }
-    Ok(())
-}
-
-// How many entries the list of event e has.
-fn len_at(lens: &[usize], e: usize) -> usize
-    ensures { result ≡ slice_index lens.now e }
-{
-    if e < lens.len() { lens[e] } else { 0 }
-}
-
-// The rows from one on.
-fn rows_from<'a, M>(rows: &'a [Entry<M>], at: usize) -> &'a [Entry<M>]
-    ensures { result.now ≡ drop at rows.now }
-{
-    let (_, rest) = rows.split_at(at.min(rows.len()));
-    rest
-}
-
-// The first n rows.
-fn first_rows<'a, M>(rows: &'a [Entry<M>], n: usize) -> &'a [Entry<M>]
-    ensures { result.now ≡ take n rows.now }
-{
-    let (front, _) = rows.split_at(n.min(rows.len()));
-    front
+    xs.get(at..).unwrap_or(&[])
 }
 
 // The list of event e in a card's rows.
 fn list_of<'a, M>(rows: &'a [Entry<M>], lens: &[usize], e: u8) -> &'a [Entry<M>]
     ensures { result.now ≡ list_at rows.now lens.now e }
 {
-    first_rows(rows_from(rows, 16 * e as usize), len_at(lens, e as usize))
+    let len = lens.get(e as usize).copied().unwrap_or(0);
+    front(rest_from(rows, 16 * e as usize), len)
 }
 
-// The lines of a card with so many inputs that stands at the front of these rows.
-pub fn push_card<M: Spelt>(
-    heap: Global,
-    text: &mut String,
-    word: &str,
-    block: Option<usize>,
-    rows: &[Entry<M>],
-    lens: &[usize],
-    inputs: u8,
-    outputs: usize,
-) -> Result<(), AllocError>
-    ensures { OnOk result (string_bytes text.new ≡ string_bytes text.old ++ card_lines M.Spelt.text word.now block outputs (list_at rows.now lens.now) 0 inputs) }
-{
-    for e in 0..inputs {
-        push_list(
-            heap,
-            text,
-            word,
-            block,
-            e as usize,
-            list_of(rows, lens, e),
-            outputs,
-        )?;
+// What the lines of a card share: the word that they begin with, the block, where it is told, and how many outputs the block has.
+#[derive(Clone, Copy)]
+pub struct Heading<'a> {
+    pub word: &'a str,
+    pub block: Option<usize>,
+    pub outputs: usize,
+}
+
+impl Heading<'_> {
+    // The line of one entry: the block, where it is told, the event, the position, the amount and the counts.
+    fn push_row<M: Spelt>(
+        &self,
+        text: &mut String,
+        event: usize,
+        at: usize,
+        entry: Entry<M>,
+    ) -> Result<(), AllocError>
+        ensures { OnOk result (string_bytes text.new ≡ string_bytes text.old ++ row_line M.Spelt.text self.now.word.now self.now.block event at entry self.now.outputs) }
+    {
+        match self.block {
+            Some(n) => push_entry(text, self.word, &[n, event, at], entry, self.outputs),
+            None => push_entry(text, self.word, &[event, at], entry, self.outputs),
+        }
     }
-    Ok(())
+
+    // The lines of a list.
+    pub fn push_list<M: Spelt>(
+        &self,
+        text: &mut String,
+        event: usize,
+        list: &[Entry<M>],
+    ) -> Result<(), AllocError>
+        ensures { OnOk result (string_bytes text.new ≡ string_bytes text.old ++ list_lines M.Spelt.text self.now.word.now self.now.block event self.now.outputs 0 list.now) }
+    {
+        for (at, entry) in list.iter().enumerate() {
+            self.push_row(text, event, at, *entry)?;
+        }
+        Ok(())
+    }
+
+    // The lines of a card with so many inputs that stands at the front of these rows.
+    pub fn push_card<M: Spelt>(
+        &self,
+        text: &mut String,
+        rows: &[Entry<M>],
+        lens: &[usize],
+        inputs: u8,
+    ) -> Result<(), AllocError>
+        ensures { OnOk result (string_bytes text.new ≡ string_bytes text.old ++ card_lines M.Spelt.text self.now.word.now self.now.block self.now.outputs (list_at rows.now lens.now) 0 inputs) }
+    {
+        for e in 0..inputs {
+            self.push_list(text, e as usize, list_of(rows, lens, e))?;
+        }
+        Ok(())
+    }
 }
 
 // The lines of block n's card, if it is current; 128 rows hold a block's card.
 fn push_block<M: Spelt>(
-    heap: Global,
     text: &mut String,
     n: usize,
-    row: Row,
+    row: &Row,
     cards: &[Entry<M>],
 ) -> Result<(), AllocError>
     requires { n < 64 }
-    ensures { OnOk result (string_bytes text.new ≡ string_bytes text.old ++ block_lines M.Spelt.text cards.now n row) }
+    ensures { OnOk result (string_bytes text.new ≡ string_bytes text.old ++ block_lines M.Spelt.text cards.now n row.now) }
 {
     if row.old {
         return Ok(());
     }
-    push_card(
-        heap,
-        text,
-        "card",
-        Some(n),
-        rows_from(cards, 128 * n),
-        &row.lens,
-        row.inputs,
-        row.outputs as usize,
-    )
+    let heading = Heading {
+        word: "card",
+        block: Some(n),
+        outputs: row.outputs as usize,
+    };
+    heading.push_card(text, rest_from(cards, 128 * n), &row.lens, row.inputs)
 }
 
 // The lines of all current cards, in the order of their blocks.
 pub fn push_cards<M: Spelt>(
-    heap: Global,
     text: &mut String,
     index: &[Row],
     cards: &[Entry<M>],
 ) -> Result<(), AllocError>
     ensures { OnOk result (string_bytes text.new ≡ string_bytes text.old ++ rows_lines M.Spelt.text cards.now 0 (take 64 index.now)) }
 {
-    for n in 0..index.len().min(64) {
-        let row = index[n];
+    let blocks = front(index, 64);
+    for (n, row) in blocks.iter().enumerate() {
         if !row.used {
             return Ok(());
         }
-        push_block(heap, text, n, row, cards)?;
+        push_block(text, n, row, cards)?;
     }
     Ok(())
 }

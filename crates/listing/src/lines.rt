@@ -1,33 +1,16 @@
 // A line about an entry: a word, numbers, the amount, and the counts of a block's outputs.
-ghost use Rattle.std.specs.Prelude.{◌≡◌, [], ◌∷◌, ◌++◌, string_bytes, OnOk};
+ghost use Rattle.std.specs.Prelude.{◌≡◌, ◌++◌, string_bytes, OnOk};
 ghost use Rattle.listing.specs.Lines.{words, entry_line};
 
 use crate::amount::Spelt;
 use costs::entry::Entry;
 use std::alloc::AllocError;
 
-// One number more, behind a blank.
-fn push_word(text: &mut String, n: usize) -> Result<(), AllocError>
-    ensures { OnOk result (string_bytes text.new ≡ string_bytes text.old ++ words (n ∷ [])) }
-{
-    write!(text, " {n}")
-}
-
 // Numbers, each behind a blank.
 pub fn push_words(text: &mut String, numbers: &[usize]) -> Result<(), AllocError>
     ensures { OnOk result (string_bytes text.new ≡ string_bytes text.old ++ words numbers.now) }
 {
     for n in numbers {
-        write!(text, " {n}")?;
-    }
-    Ok(())
-}
-
-// Counts, each behind a blank.
-fn push_counts(text: &mut String, counts: &[u8]) -> Result<(), AllocError>
-    ensures { OnOk result (string_bytes text.new ≡ string_bytes text.old ++ words counts.now) }
-{
-    for n in counts {
         write!(text, " {n}")?;
     }
     Ok(())
@@ -43,9 +26,11 @@ pub fn push_entry<M: Spelt>(
 ) -> Result<(), AllocError>
     ensures { OnOk result (string_bytes text.new ≡ string_bytes text.old ++ entry_line M.Spelt.text word.now numbers.now entry outputs) }
 {
-    write!(text, "{word}")?;
+    text.push_str(word)?;
     push_words(text, numbers)?;
     write!(text, " {}", entry.amount)?;
-    push_counts(text, &entry.counts.at[0..outputs.min(8)])?;
+    for n in &entry.counts.at[..outputs.min(8)] {
+        write!(text, " {n}")?;
+    }
     writeln!(text)
 }

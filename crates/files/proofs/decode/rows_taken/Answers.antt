@@ -1,14 +1,14 @@
 -- One call more.
-use Rattle.std.proofs.Common.{◌≡◌, ◌+◌, ◌-◌, ◌^◌, min, ap, ◌∙◌, arith}
-use Rattle.std.proofs.lemmas.List.{take_all}
+use Rattle.std.proofs.Common.{◌≡◌, ◌+◌, ◌-◌, ◌^◌, min, rules, refl, subst, arith}
+use Rattle.std.specs.Iterator.{AlwaysYields}
+use Rattle.std.proofs.lemmas.Fn.{fold_over, fronts, slice_gives}
+use Rattle.library.specs.Calls.{taken}
 use Rattle.files.specs.Files.{rows_asked}
-use Rattle.files.proofs.Decoding.{rows_asked_more}
+use Rattle.files.proofs.Decoding.{rows_asked_push}
 use Rattle.files.proofs.decode.rows_taken.Goals as goal
 
-pub loop-i-preserved : goal.loop-i-preserved
-loop-i-preserved c =
-    let sum : c.saturating_add-n.result ≡ min (c.loop-i.n + c.taken.result) (2 ^ 64 - 1) = omega (arith, c.saturating_add-n.ensures) in
-    rows_asked_more c.args.calls.now c.loop-i.i c.loop-i.n c.taken.result c.saturating_add-n.result _ c.loop-i-test.true c.loop-i.invariant c.taken.ensures sum
-
 pub returns : goal.returns
-returns c = c.loop-i.invariant ∙ ap (λ l. min (rows_asked l) (2 ^ 64 - 1)) (take_all c.loop-i.i c.args.calls.now (omega arith))
+returns c =
+    fold_over fronts (λ y. y.now) _ (λ ys n. n ≡ min (rows_asked ys) (2 ^ 64 - 1)) _
+    (λ ys a x b f' so k. let one : b ≡ min (a + taken (2 ^ 64 - 1) x.now) (2 ^ 64 - 1) = search (rules, arith) in (omega (arith, rows_asked_push ys x.now), search rules))
+    c.iter.result c.args.calls.now 0 c.fold.result (subst (λ xs. AlwaysYields fronts (λ y. y.now) c.iter.result xs) c.iter.ensures.rest (slice_gives c.iter.result)) refl c.fold.ensures.ran

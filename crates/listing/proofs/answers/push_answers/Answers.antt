@@ -1,12 +1,13 @@
--- One call more, with the rows that it took.
-use Rattle.std.proofs.Common.{string_bytes, arith}
-use Rattle.listing.proofs.Answering.{answers_more, answers_all}
+-- Every call that has an answer is told.
+use Rattle.std.proofs.Common.{◌≡◌, min, length, arith}
+use Rattle.std.proofs.lemmas.Slice.Zip.{zip_end}
+use Rattle.listing.proofs.Answering.{answers_all}
 use Rattle.listing.proofs.answers.push_answers.Goals as goal
 
-pub loop-i-preserved : goal.loop-i-preserved
-loop-i-preserved g c =
-    answers_more g.M.Spelt.text g.M.Measure.wide c.args.index.now c.args.calls.now c.args.answers.now c.loop-i.rest.now c.split_at.result.1.now c.split_at.result.0.now (string_bytes c.loop-i.text) (string_bytes c.push_answer.new.text) _
-    c.loop-i.i c.taken.result _ _ (omega arith) (omega arith) c.taken.ensures c.split_at.ensures.front c.in_ok-push_answer.ensures c.split_at.ensures.back c.loop-i.invariant
-
 pub returns : goal.returns
-returns g c = answers_all g.M.Spelt.text g.M.Measure.wide c.args.index.now c.args.calls.now c.args.answers.now _ _ _ c.loop-i.i (omega arith) c.loop-i.invariant
+returns g c =
+    let calls = c.args.calls.now in
+    let answers = c.args.answers.now in
+    let all : length c.loop-call.yielded ≡ min (length calls) (length answers) =
+    zip_end calls answers c.loop-call.yielded c.into_iter-call-iterator.result c.loop-call.call-iterator c.next.new.self c.next.result (cc) (cc) c.loop-call.yielded_by c.in-None.is c.next.ensures.steps in
+    answers_all g.M.Spelt.text g.M.Measure.wide c.args.index.now calls answers c.loop-call.rest.now _ _ (length c.loop-call.yielded) (omega (arith, all)) c.loop-call.invariant

@@ -1,2 +1,0 @@
--- What follows of the report's words. Assumes nothing.
-pub mod Choosing
