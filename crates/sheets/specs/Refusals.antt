@@ -1,5 +1,6 @@
 -- Refusals of a sheet's bytes by number, level and place, and what checks 1 and 2 answer. Assumes nothing.
 use Rattle.std.specs.Prelude.{ℕ, cond, List, length, Some, None, Ok, Err, Option, Result, ◌==◌}
+use Rattle.std.specs.Result.{result_and}
 use Rattle.sheets.specs.Grammar.{fault}
 use Rattle.sheets.specs.Frames.{fields, span}
 use Rattle.sheets.specs.declared.refusal.Refusal.{Refusal}
@@ -31,3 +32,7 @@ refused_at (Some at) = Err (Grammar at)
 -- Check 2: each field may follow those before it, and nothing more is needed.
 unfoldable pub check_of : ℕ → List ℕ → Result Unit Refusal
 check_of width bs = refused_at (fault width (fields bs))
+
+-- Check 1, and where it accepts, check 2: what the two answer one after the other.
+abbrev pub both_of : ℕ → List ℕ → Result Unit Refusal
+both_of width bs = result_and (framing_of bs) (check_of width bs)

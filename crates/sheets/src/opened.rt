@@ -1,10 +1,11 @@
 // Opened and checked sheets. Checks go by reference and may refuse; the makings cannot.
-ghost use Rattle.std.specs.Prelude.{◌≡◌, true, is_ok};
+ghost use Rattle.std.specs.Prelude.{◌≡◌, true, is_ok, IfOk, OnOk};
+ghost use Rattle.std.specs.Result.{result_map_both};
 ghost use Rattle.sheets.specs.Form.{Form};
 ghost use Rattle.sheets.specs.Sheets.{sheet_of};
 ghost use Rattle.sheets.specs.Lawful.{Grammatical};
 ghost use Rattle.sheets.specs.Split.{Framing};
-ghost use Rattle.sheets.specs.Refusals.{framing_of, check_of};
+ghost use Rattle.sheets.specs.Refusals.{framing_of, check_of, both_of};
 
 use crate::grammar::Seen;
 use crate::part::first;
@@ -100,4 +101,19 @@ pub struct Checked<'a> {
     pub(crate) width: Width,
     ghost framed: { is_ok (framing_of bytes.now) ≡ true },
     ghost right: { is_ok (check_of width.bytes bytes.now) ≡ true },
+}
+
+impl<'a> Checked<'a> {
+    // Both checks and both makings: the checked sheet, or what the first check that refuses says.
+    pub fn read(bytes: &'a [u8], width: Width) -> Result<Checked<'a>, Refusal>
+        ensures value { result_map_both (λ _. tt) (λ e. e) result ≡ both_of width.bytes bytes.now }
+        ensures bytes { IfOk result (λ s. s.bytes.now ≡ bytes.now) }
+        ensures width { IfOk result (λ s. s.width ≡ width) }
+        ensures form { OnOk result (Form width.bytes (sheet_of width.bytes bytes.now)) }
+    {
+        framing(bytes)?;
+        let opened = Opened::new(bytes);
+        opened.check(width)?;
+        Ok(opened.into_checked(width))
+    }
 }

@@ -1,6 +1,6 @@
 // What a sheet's fields name: kinds, actions, transitions, ends and connections. Numbers count from 0.
 
-#[derive(Clone, Copy)]
+#[derive(Clone, Copy, PartialEq, Eq, Debug)]
 pub enum Kind {
     Basic,
     Service,
@@ -8,7 +8,7 @@ pub enum Kind {
 }
 
 // A block's kind, and how many input and output events it has.
-#[derive(Clone, Copy)]
+#[derive(Clone, Copy, PartialEq, Eq, Debug)]
 pub struct Interface {
     pub kind: Kind,
     pub inputs: u8,
@@ -16,14 +16,14 @@ pub struct Interface {
 }
 
 // What a state does on entry: runs an algorithm, sends an output, both or neither.
-#[derive(Clone, Copy)]
+#[derive(Clone, Copy, PartialEq, Eq, Debug)]
 pub struct Action {
     pub algorithm: Option<u8>,
     pub output: Option<u8>,
 }
 
 // From state to state, guarded by an event or event-free.
-#[derive(Clone, Copy)]
+#[derive(Clone, Copy, PartialEq, Eq, Debug)]
 pub struct Transition {
     pub source: u8,
     pub destination: u8,
@@ -31,20 +31,20 @@ pub struct Transition {
 }
 
 // Where a connection begins or ends: a port of the composite itself, or of one of its instances.
-#[derive(Clone, Copy)]
+#[derive(Clone, Copy, PartialEq, Eq, Debug)]
 pub enum End {
     Outside { port: u8 },
     Inside { instance: u8, port: u8 },
 }
 
-#[derive(Clone, Copy)]
+#[derive(Clone, Copy, PartialEq, Eq, Debug)]
 pub struct Connection {
     pub source: End,
     pub target: End,
 }
 
 // What stands in a sheet any number of times, each in a field of its own.
-#[derive(Clone, Copy)]
+#[derive(Clone, Copy, PartialEq, Eq, Debug)]
 pub enum Item {
     State,
     Transition,
