@@ -1,9 +1,10 @@
 -- Looking fields up by tag: what is found, and what a checked sheet's fields say. Assumes nothing.
 use Rattle.std.proofs.Common.{◌≡◌, ℕ, zero, suc, ◌+◌, Bool, true, false, cond, ◌&&◌, eqb, leb, ◌⊎◌, List, [], ◌∷◌, ◌++◌, map, length, is_ok, Some, None, Option, sym, refl, ap, ◌∙◌, subst, inl, inr, ⊎_elim, arith}
 use Rattle.std.specs.Option.{option_map, option_flatten}
-use Rattle.std.specs.List.{slice_get}
+use Rattle.std.specs.List.{slice_get, filter}
+use Rattle.std.proofs.lemmas.List.{length-map}
 use Rattle.std.proofs.lemmas.Bool.{cases_Bool, cond-true, cond-false, and_parts, eqb-true, false≢true}
-use Rattle.sheets.specs.Frames.{Raw, size, fields}
+use Rattle.sheets.specs.Frames.{Raw, size, fields, laid}
 use Rattle.sheets.specs.Fields.{Said, field_of}
 use Rattle.sheets.specs.Grammar.{byte, follows, walk, fault, fits_of, heads_of, belongs_to, highest, lower, room}
 use Rattle.sheets.specs.Reading.{said_at}
@@ -33,6 +34,14 @@ pub map_placed : (t at : ℕ) (fs : List Raw) → map (λ p. p.1) (placed t at f
 map_placed t at [] = refl
 map_placed t at (f ∷ fs) =
     map_cond (λ p. p.1) (eqb f.tag t) _ _ ∙ ap (λ l. cond (eqb f.tag t) (f ∷ l) l) (map_placed t (at + size f) fs)
+
+-- those of a tag, among all with their places
+pub filter_laid : (t at : ℕ) (fs : List Raw) → filter (λ p. eqb p.1.tag t) (laid at fs) ≡ placed t at fs
+filter_laid t at [] = refl
+filter_laid t at (f ∷ fs) = ap (λ l. cond (eqb f.tag t) ((at, f) ∷ l) l) (filter_laid t (at + size f) fs)
+
+pub length_placed : (t at : ℕ) (fs : List Raw) → length (placed t at fs) ≡ length (tagged t fs)
+length_placed t at fs = sym (length-map (placed t at fs) (λ p. p.1)) ∙ ap length (map_placed t at fs)
 
 -- what is found is what is said
 pub said_found : (t k : ℕ) (bs : List ℕ) (o : Option (ℕ × Raw)) → o ≡ slice_get (placed t 0 (fields bs)) k → said_at t k bs ≡ option_flatten (option_map field_of (option_map (λ p. p.1) o))

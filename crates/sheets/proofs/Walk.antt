@@ -3,7 +3,7 @@ use Rattle.std.proofs.Common.{◌≡◌, ℕ, zero, suc, ◌+◌, ◌*◌, ◌�
 use Rattle.std.specs.Option.{option_map}
 use Rattle.std.proofs.lemmas.List.{length-take-le, length-drop}
 use Rattle.std.proofs.lemmas.Bool.{leb-true}
-use Rattle.sheets.specs.Frames.{Raw, size, field_at, with, fields_in, fields, span, Turn}
+use Rattle.sheets.specs.Frames.{Raw, size, field_at, with, fields_in, fields, laid, span, Turn}
 
 pub cond_some : {X : Type 0} (b : Bool) (x y : X) → cond b (Some x) None ≡ Some y → (b ≡ true) × (x ≡ y)
 cond_some true x y e = (refl, cc)
@@ -45,6 +45,22 @@ fields_more (b ∷ bs) f e =
     let d = length-drop (size f) (b ∷ bs) in
     ap (λ o. with o (λ g. fields_in (length bs) (drop (size g) (b ∷ bs)))) e
     ∙ ap (λ fs. f ∷ fs) (fuel _ _ (drop (size f) (b ∷ bs)) (omega arith) (omega arith))
+
+-- each field takes a byte at least
+few_in : (n : ℕ) (bs : List ℕ) → length (fields_in n bs) ≤ n
+few_in zero bs = omega arith
+few_in (suc n) bs = step (field_at bs) _ (λ f. few_in n (drop (size f) bs)) where
+  step : (o : Option Raw) (k : Raw → List Raw) → ((f : Raw) → length (k f) ≤ n) → length (with o k) ≤ suc n
+  step None k h = omega arith
+  step (Some f) k h = let le = h f in omega arith
+
+length_laid : (at : ℕ) (fs : List Raw) → length (laid at fs) ≡ length fs
+length_laid at [] = refl
+length_laid at (f ∷ fs) = ap suc (length_laid (at + size f) fs)
+
+pub few_laid : (at : ℕ) (bs : List ℕ) → length (laid at (fields bs)) ≤ length bs
+unfolding fields
+few_laid at bs = let le = few_in (length bs) bs in let same = length_laid at (fields bs) in omega arith
 
 pub fields_end : (bs : List ℕ) → field_at bs ≡ None → fields bs ≡ []
 unfolding fields

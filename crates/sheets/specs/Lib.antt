@@ -1,5 +1,6 @@
 pub mod Frames
 pub mod Parts
+pub mod Places
 pub mod Fields
 pub mod Grammar
 pub mod Seen

@@ -10,7 +10,3 @@ raw p = record { tag = p.tag; content = p.content.now }
 
 abbrev pub shown : Option (Part × Bor (List ℕ)) → Option Raw
 shown = option_map (λ p. raw p.0)
-
--- a field that was looked for, with its offset
-abbrev pub found_at : Option (ℕ × Part) → Option (ℕ × Raw)
-found_at = option_map (λ p. (p.0, raw p.1))

@@ -1,11 +1,13 @@
 // What a field says, by its tag and the shape of its content. Each case borrows its content from the sheet.
-ghost use Rattle.std.specs.Prelude.{◌≡◌};
+ghost use Rattle.std.specs.Prelude.{◌≡◌, Some};
 ghost use Rattle.std.specs.Option.{option_map};
-ghost use Rattle.sheets.specs.Fields.{field_of, kind_of, number_of, end_of, transition_of, interface_of, entry_of, instance_of, connection_of};
-ghost use Rattle.sheets.specs.Shown.{said};
+ghost use Rattle.sheets.specs.Fields.{field_of, number_of, end_of, transition_of, interface_of, entry_of, instance_of, connection_of};
+ghost use Rattle.sheets.specs.Shown.{said, shown_entry};
+ghost use Rattle.sheets.specs.Reading.{as_interface, as_amounts, as_actions, as_transition, as_entry, as_instance, as_connection};
 ghost use Rattle.sheets.specs.Parts.{raw};
 
 use crate::part::Part;
+use crate::width::Width;
 use crate::words::{Connection, End, Interface, Kind, Transition};
 
 #[derive(Clone, Copy)]
@@ -31,30 +33,19 @@ pub struct ServiceEntry<'a> {
     pub counts: &'a [u8],
 }
 
-fn kind(byte: u8) -> Option<Kind>
-    ensures { result ≡ kind_of byte }
-{
-    match byte {
-        1 => Some(Kind::Basic),
-        2 => Some(Kind::Service),
-        3 => Some(Kind::Composite),
-        _ => None,
-    }
-}
-
+// A number in one byte, where 255 stands for none.
 pub(crate) fn number(byte: u8) -> Option<u8>
     ensures { result ≡ number_of byte }
 {
-    if byte == 255 { None } else { Some(byte) }
+    (byte != 255).then_some(byte)
 }
 
 fn end(instance: u8, port: u8) -> End
     ensures { result ≡ end_of instance port }
 {
-    if instance == 255 {
-        End::Outside { port }
-    } else {
-        End::Inside { instance, port }
+    match number(instance) {
+        Some(instance) => End::Inside { instance, port },
+        None => End::Outside { port },
     }
 }
 
@@ -64,14 +55,12 @@ fn interface<'a>(content: &'a [u8]) -> Option<Field<'a>>
     let [byte, inputs, outputs] = content else {
         return None;
     };
-    match kind(*byte) {
-        Some(kind) => Some(Field::Interface(Interface {
-            kind,
-            inputs: *inputs,
-            outputs: *outputs,
-        })),
-        None => None,
-    }
+    let kind = Kind::try_from(*byte).ok()?;
+    Some(Field::Interface(Interface {
+        kind,
+        inputs: *inputs,
+        outputs: *outputs,
+    }))
 }
 
 fn transition<'a>(content: &'a [u8]) -> Option<Field<'a>>
@@ -118,6 +107,79 @@ fn connection<'a>(content: &'a [u8]) -> Option<Field<'a>>
         source: end(*source, *output),
         target: end(*target, *input),
     }))
+}
+
+impl<'a> Field<'a> {
+    pub(crate) fn as_interface(self) -> Option<Interface>
+        ensures { result ≡ as_interface (Some (said self.entry)) }
+    {
+        match self {
+            Field::Interface(interface) => Some(interface),
+            _ => None,
+        }
+    }
+
+    // Empty where the field holds no amounts.
+    pub(crate) fn as_amounts(self) -> &'a [u8]
+        ensures { result.now ≡ as_amounts (Some (said self.entry)) }
+    {
+        match self {
+            Field::Amounts(content) => content,
+            _ => &[],
+        }
+    }
+
+    // Empty where the field holds no actions.
+    pub(crate) fn as_actions(self) -> &'a [u8]
+        ensures { result.now ≡ as_actions (Some (said self.entry)) }
+    {
+        match self {
+            Field::Actions(content) => content,
+            _ => &[],
+        }
+    }
+
+    pub(crate) fn as_transition(self) -> Option<Transition>
+        ensures { result ≡ as_transition (Some (said self.entry)) }
+    {
+        match self {
+            Field::Transition(transition) => Some(transition),
+            _ => None,
+        }
+    }
+
+    // The bytes after the event are the amount, as wide as is said, and then the counts.
+    pub(crate) fn as_entry(self, width: Width) -> Option<ServiceEntry<'a>>
+        ensures { option_map shown_entry result ≡ as_entry width.bytes (Some (said self.entry)) }
+    {
+        let Field::Entry { event, rest } = self else {
+            return None;
+        };
+        let (amount, counts) = rest.split_at_checked(width.bytes)?;
+        Some(ServiceEntry {
+            event,
+            amount,
+            counts,
+        })
+    }
+
+    pub(crate) fn as_instance(self) -> Option<u8>
+        ensures { result ≡ as_instance (Some (said self.entry)) }
+    {
+        match self {
+            Field::Instance(block) => Some(block),
+            _ => None,
+        }
+    }
+
+    pub(crate) fn as_connection(self) -> Option<Connection>
+        ensures { result ≡ as_connection (Some (said self.entry)) }
+    {
+        match self {
+            Field::Connection(connection) => Some(connection),
+            _ => None,
+        }
+    }
 }
 
 // What the field says; none where tag and content do not fit.

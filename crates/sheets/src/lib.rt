@@ -2,6 +2,7 @@
 #![tactic(auto)]
 
 pub mod field;
+pub mod fields;
 mod grammar;
 mod lookup;
 pub mod opened;

@@ -3,10 +3,11 @@ ghost use Rattle.std.specs.Prelude.{◌≡◌, ◌≤◌, [], length, MatchOptio
 ghost use Rattle.std.specs.Option.{option_map};
 ghost use Rattle.std.specs.List.{slice_get};
 ghost use Rattle.sheets.specs.Form.{AmountAt};
+ghost use Rattle.sheets.specs.Reading.{said_at, as_amounts, as_actions};
 ghost use Rattle.sheets.specs.Shown.{shown_entry};
 ghost use Rattle.sheets.specs.Sheets.{count_of, offsets_of, sheet_of};
 
-use crate::field::ServiceEntry;
+use crate::field::{Field, ServiceEntry};
 use crate::lookup::*;
 use crate::opened::Checked;
 use crate::width::Width;
@@ -34,7 +35,7 @@ impl<'a> Checked<'a> {
     pub fn interface(&self) -> Interface
         ensures { result ≡ (sheet_of self.now.width.bytes self.now.bytes.now).face }
     {
-        as_interface(field(self.bytes, 1, 0)).unwrap()
+        field(self.bytes, 1, 0).unwrap().as_interface().unwrap()
     }
 
     // How many of an item there are.
@@ -48,24 +49,30 @@ impl<'a> Checked<'a> {
     pub fn offset(&self, item: Item, k: usize) -> Option<usize>
         ensures { result ≡ slice_get (offsets_of item self.now.bytes.now) k }
     {
-        match find(self.bytes, tag(item), k) {
-            Some((at, _)) => Some(at),
-            None => None,
-        }
+        find(self.bytes, tag(item), k).map(|field| field.at)
+    }
+
+    // All amounts, one after another.
+    fn amount_bytes(&self) -> &'a [u8]
+        ensures { result.now ≡ as_amounts (said_at 2 0 self.now.bytes.now) }
+    {
+        field(self.bytes, 2, 0)
+            .map(Field::as_amounts)
+            .unwrap_or(&[])
     }
 
     // How many algorithms have an amount.
     pub fn amounts(&self) -> usize
         ensures { result ≡ length (sheet_of self.now.width.bytes self.now.bytes.now).amounts }
     {
-        as_amounts(field(self.bytes, 2, 0)).len() / self.width.bytes
+        self.amount_bytes().len() / self.width.bytes
     }
 
     // The bytes of the amount of algorithm k.
     pub fn amount(&self, k: usize) -> Option<&'a [u8]>
         ensures { option_map (λ a. a.now) result ≡ slice_get (sheet_of self.now.width.bytes self.now.bytes.now).amounts k }
     {
-        piece(as_amounts(field(self.bytes, 2, 0)), self.width, k)
+        piece(self.amount_bytes(), self.width, k)
     }
 
     // Where the amount of algorithm k stands, in bytes from the sheet's first: other bytes of its width may be written there.
@@ -78,43 +85,52 @@ impl<'a> Checked<'a> {
         Some(AMOUNTS + k * self.width.bytes)
     }
 
+    // The actions of state k, two bytes each; none where there is no such state.
+    fn action_bytes(&self, k: usize) -> &'a [u8]
+        ensures { result.now ≡ as_actions (said_at 3 k self.now.bytes.now) }
+    {
+        field(self.bytes, 3, k)
+            .map(Field::as_actions)
+            .unwrap_or(&[])
+    }
+
     // How many actions state k has.
     pub fn actions(&self, k: usize) -> usize
         ensures { result ≡ length (slice_index_or (sheet_of self.now.width.bytes self.now.bytes.now).states k []) }
     {
-        as_actions(field(self.bytes, 3, k)).len() / 2
+        self.action_bytes(k).len() / 2
     }
 
     // Action j of state k.
     pub fn action(&self, k: usize, j: usize) -> Option<Action>
         ensures { result ≡ slice_get (slice_index_or (sheet_of self.now.width.bytes self.now.bytes.now).states k []) j }
     {
-        action_at(as_actions(field(self.bytes, 3, k)), j)
+        action_at(self.action_bytes(k), j)
     }
 
     pub fn transition(&self, k: usize) -> Option<Transition>
         ensures { result ≡ slice_get (sheet_of self.now.width.bytes self.now.bytes.now).transitions k }
     {
-        as_transition(field(self.bytes, 4, k))
+        field(self.bytes, 4, k)?.as_transition()
     }
 
     // Entry k of a service block.
     pub fn entry(&self, k: usize) -> Option<ServiceEntry<'a>>
         ensures { option_map shown_entry result ≡ slice_get (sheet_of self.now.width.bytes self.now.bytes.now).entries k }
     {
-        as_entry(field(self.bytes, 5, k), self.width)
+        field(self.bytes, 5, k)?.as_entry(self.width)
     }
 
     // The number of the block of instance k.
     pub fn instance(&self, k: usize) -> Option<u8>
         ensures { result ≡ slice_get (sheet_of self.now.width.bytes self.now.bytes.now).instances k }
     {
-        as_instance(field(self.bytes, 6, k))
+        field(self.bytes, 6, k)?.as_instance()
     }
 
     pub fn connection(&self, k: usize) -> Option<Connection>
         ensures { result ≡ slice_get (sheet_of self.now.width.bytes self.now.bytes.now).connections k }
     {
-        as_connection(field(self.bytes, 7, k))
+        field(self.bytes, 7, k)?.as_connection()
     }
 }

@@ -1,10 +1,29 @@
 // What a sheet's fields name: kinds, actions, transitions, ends and connections. Numbers count from 0.
+ghost use Rattle.std.specs.Prelude.{◌≡◌};
+ghost use Rattle.std.specs.Result.{result_ok};
+ghost use Rattle.sheets.specs.Fields.{kind_of};
 
 #[derive(Clone, Copy, PartialEq, Eq, Debug)]
 pub enum Kind {
     Basic,
     Service,
     Composite,
+}
+
+// The kind that a byte of a sheet stands for; a byte that stands for none comes back.
+impl TryFrom<u8> for Kind {
+    type Error = u8;
+
+    ghost try_from_gives = { λ byte result. result_ok result ≡ kind_of byte };
+
+    fn try_from(byte: u8) -> Result<Kind, u8> {
+        match byte {
+            1 => Ok(Kind::Basic),
+            2 => Ok(Kind::Service),
+            3 => Ok(Kind::Composite),
+            _ => Err(byte),
+        }
+    }
 }
 
 // A block's kind, and how many input and output events it has.

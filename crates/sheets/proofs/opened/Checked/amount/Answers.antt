@@ -1,6 +1,5 @@
 use Rattle.std.proofs.Common.{ap, ◌∙◌}
 use Rattle.std.specs.List.{slice_get}
-use Rattle.sheets.specs.Reading.{as_amounts}
 use Rattle.sheets.specs.Sheets.{sheet_of, amounts_at}
 use Rattle.sheets.proofs.Saying.{amounts_content}
 use Rattle.sheets.proofs.opened.Checked.amount.Goals as goal
@@ -9,4 +8,4 @@ pub returns : goal.returns
 unfolding sheet_of
 returns c =
     let s = c.args.self.now in
-    c.piece.ensures ∙ ap (λ l. slice_get (amounts_at s.width.bytes l) c.args.k) (c.as_amounts.ensures ∙ ap as_amounts c.field.ensures ∙ amounts_content s.bytes.now)
+    c.piece.ensures ∙ ap (λ l. slice_get (amounts_at s.width.bytes l) c.args.k) (c.amount_bytes.ensures ∙ amounts_content s.bytes.now)
