@@ -1,6 +1,6 @@
 -- What replaying calls keeps, one call more. Assumes nothing.
 use Rattle.std.proofs.Common.{◌≡◌, ℕ, ◌+◌, ◌-◌, ◌<◌, ◌≤◌, List, [], ◌∷◌, ◌++◌, length, get_or, take, drop, set, sym, refl, ap, ◌∙◌, subst, ap₂, arith}
-use Rattle.std.proofs.lemmas.List.{append-nil, get_or_default, take_rest, drop_all, take_more, take_at, drop_at, drop-drop, drop-set-lt, length-take-le, length-drop, length-append}
+use Rattle.std.proofs.lemmas.List.{append-nil, take_rest, drop_all, take_more, take_at, drop_at, drop-drop, drop-set-lt, length-take-le, length-drop, length-append}
 use Rattle.costs.specs.declared.entry.Entry.{Entry}
 use Rattle.library.specs.Books.{Rules, Book, empty}
 use Rattle.library.specs.Calls.{asked, lent_to, taken, cursor, asks, replied, replies}
@@ -81,26 +81,26 @@ module _ {M : Type 0} {rules : Rules M} {sizes : Sizes} {rows : ℕ} {calls : Li
 
   -- the rows from `at` on are handed over as a part of the caller's, which ends with them
   pub replayed_next : {i at : ℕ} {answers : List Answer} {out : List (Entry M)} {shelf : List ℕ} {index : List Row} {cards : List (Entry M)}
-      (d : Call) (rows' n : ℕ) (left' : List (Entry M)) (answer : Answer) (shelf' : List ℕ) (index' : List Row) (cards' : List (Entry M))
+      (call : Call) (rows' n : ℕ) (left' : List (Entry M)) (answer : Answer) (shelf' : List ℕ) (index' : List Row) (cards' : List (Entry M))
       → Replayed rules sizes rows calls answers₀ out₀ i at answers out shelf index cards
-      → i < length calls → i < length answers → length out ≡ length out₀ → sizes_of shelf index cards ≡ sizes → rows' ≡ rows
-      → n ≡ taken (length out - at) (get_or calls i d) → length left' ≡ length (take (length out - at) (drop at out))
+      → i < length calls → i < length answers → call ≡ get_or calls i call → length out ≡ length out₀ → sizes_of shelf index cards ≡ sizes → rows' ≡ rows
+      → n ≡ taken (length out - at) call → length left' ≡ length (take (length out - at) (drop at out))
       → ((b : Book M) → Stands rules b shelf index cards
-      → drop (taken (length (take (length out - at) (drop at out))) (get_or calls i d)) left' ≡ drop (taken (length (take (length out - at) (drop at out))) (get_or calls i d)) (take (length out - at) (drop at out)))
-      → GoesOn rules (asked (get_or calls i d)) (lent_to rows' (length (take (length out - at) (drop at out))) (get_or calls i d))
-      (replied answer (take (taken (length (take (length out - at) (drop at out))) (get_or calls i d)) left')) shelf index cards shelf' index' cards'
+      → drop (taken (length (take (length out - at) (drop at out))) call) left' ≡ drop (taken (length (take (length out - at) (drop at out))) call) (take (length out - at) (drop at out)))
+      → GoesOn rules (asked call) (lent_to rows' (length (take (length out - at) (drop at out))) call)
+      (replied answer (take (taken (length (take (length out - at) (drop at out))) call) left')) shelf index cards shelf' index' cards'
       → Replayed rules sizes rows calls answers₀ out₀ (i + 1) (at + n) (set answers i answer) (take at out ++ (left' ++ drop (length out - at) (drop at out))) shelf' index' cards'
-  replayed_next {i} {at} {answers} {out} {shelf} {index} {cards} d rows' n left' answer shelf' index' cards' was ltc lta long sized lends is same after goes =
+  replayed_next {i} {at} {answers} {out} {shelf} {index} {cards} call rows' n left' answer shelf' index' cards' was ltc lta is_call long sized lends is same after goes =
       let none : drop (length out - at) (drop at out) ≡ [] = drop_all (length out - at) (drop at out) (omega (arith, length-drop at out)) in
       let end : take at out ++ (left' ++ drop (length out - at) (drop at out)) ≡ take at out ++ left' = ap (λ l. take at out ++ l) (ap (λ l. left' ++ l) none ∙ append-nil left') in
       let left_is : take (length out - at) (drop at out) ≡ drop at out = take_rest out at in
       let size : length (take (length out - at) (drop at out)) ≡ length out - at = ap length left_is ∙ length-drop at out in
-      let n-is : at + taken (length (take (length out - at) (drop at out))) (get_or calls i d) ≡ at + n = ap (λ l. at + l) (ap (λ l. taken l (get_or calls i d)) size ∙ sym is) in
+      let n-is : at + taken (length (take (length out - at) (drop at out))) call ≡ at + n = ap (λ l. at + l) (ap (λ l. taken l call) size ∙ sym is) in
       subst (λ k. Replayed rules sizes rows calls answers₀ out₀ (i + 1) k (set answers i answer) (take at out ++ (left' ++ drop (length out - at) (drop at out))) shelf' index' cards') n-is
-      (replayed_more (take (length out - at) (drop at out)) left' (take at out ++ (left' ++ drop (length out - at) (drop at out))) (get_or calls i d) answer shelf' index' cards' was ltc lta
-      (get_or_default calls i d (get_or calls i d) ltc) long sized left_is same end after
-      (subst (λ l. GoesOn rules (asked (get_or calls i d)) (lent_to l (length (take (length out - at) (drop at out))) (get_or calls i d))
-      (replied answer (take (taken (length (take (length out - at) (drop at out))) (get_or calls i d)) left')) shelf index cards shelf' index' cards') lends goes))
+      (replayed_more (take (length out - at) (drop at out)) left' (take at out ++ (left' ++ drop (length out - at) (drop at out))) call answer shelf' index' cards' was ltc lta
+      is_call long sized left_is same end after
+      (subst (λ l. GoesOn rules (asked call) (lent_to l (length (take (length out - at) (drop at out))) call)
+      (replied answer (take (taken (length (take (length out - at) (drop at out))) call) left')) shelf index cards shelf' index' cards') lends goes))
 
 pub same_sizes : {a b c a' b' c' : ℕ} → a ≡ a' → b ≡ b' → c ≡ c' → ◌≡◌ {A = Sizes} (record { shelf = a; index = b; cards = c }) (record { shelf = a'; index = b'; cards = c' })
 same_sizes {c = c} {a' = a'} {b' = b'} p q r = ap₂ (λ x y. record { shelf = x; index = y; cards = c }) p q ∙ ap (λ z. record { shelf = a'; index = b'; cards = z }) r

@@ -5,7 +5,6 @@ use Rattle.networks.specs.Rows.{list_at}
 use Rattle.library.specs.Checks.{Lent}
 use Rattle.library.specs.Refusals.{told}
 use Rattle.library.specs.Steps.{Ask, enter, preview, retime, rework, card, Asked, Reply, entered, previewed, done, shown, refused}
-use Rattle.library.specs.Widths.{bytes_in}
 use Rattle.library.specs.declared.calls.Call.{Call}
 use Rattle.library.specs.declared.calls.Call.TheVariants.{Enter, Preview, Retime, Rework, Card}
 use Rattle.library.specs.declared.calls.Answer.{Answer}
@@ -14,7 +13,7 @@ use Rattle.library.specs.declared.calls.Answer.TheVariants.{Entered, Previewed, 
 -- what a call asks
 abbrev pub asked : Call → Ask
 asked (Enter sheet rows) = enter sheet.now
-asked (Preview sheet width rows out) = preview (bytes_in width) sheet.now
+asked (Preview sheet width rows out) = preview width.bytes sheet.now
 asked (Retime n k amount) = retime n k amount.now
 asked (Rework n rows) = rework n
 asked (Card n e out) = card n e

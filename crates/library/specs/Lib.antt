@@ -13,6 +13,5 @@ pub mod Marks
 pub mod Kept
 pub mod Placing
 pub mod Theorems
-pub mod Widths
 pub mod Calls
 pub mod Replaying

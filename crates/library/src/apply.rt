@@ -115,7 +115,7 @@ pub(crate) fn apply<M: Measure, R: Reducer<M>>(
                 cards,
                 &mut rows[..n],
                 sheet,
-                width.width(),
+                *width,
                 &mut left[..m],
             ))
         }

@@ -1,42 +1,9 @@
 // Calls and answers, for a list of calls.
 ghost use Rattle.std.specs.Prelude.{◌≡◌};
 ghost use Rattle.library.specs.Calls.{taken as taken_of};
-ghost use Rattle.library.specs.Widths.{bytes_in};
 
 use crate::refusal::Refusal;
 use sheets::width::Width;
-
-// How many bytes an amount takes; an enum, so that no other number can be handed over in a call.
-#[derive(Clone, Copy)]
-pub enum Wide {
-    One,
-    Two,
-    Three,
-    Four,
-    Five,
-    Six,
-    Seven,
-    Eight,
-}
-
-impl Wide {
-    // The same as a width of sheets.
-    pub(crate) fn width(self) -> Width
-        ensures { result.bytes ≡ bytes_in self }
-    {
-        let bytes = match self {
-            Wide::One => 1,
-            Wide::Two => 2,
-            Wide::Three => 3,
-            Wide::Four => 4,
-            Wide::Five => 5,
-            Wide::Six => 6,
-            Wide::Seven => 7,
-            Wide::Eight => 8,
-        };
-        Width { bytes }
-    }
-}
 
 // One call: what it hands over, and how many of the working rows and of the caller's rows it is lent.
 #[derive(Clone, Copy)]
@@ -48,7 +15,7 @@ pub enum Call<'a> {
     // a sheet's bytes, opened and checked at that width
     Preview {
         sheet: &'a [u8],
-        width: Wide,
+        width: Width,
         rows: usize,
         out: usize,
     },

@@ -36,9 +36,10 @@ pub fn replay<M: Measure, R: Reducer<M>>(
     let count = calls.len().min(answers.len());
     let mut at: usize = 0;
     for i in 0..count {
+        let call = &calls[i];
         let left = out.len() - at;
-        answers[i] = apply::<M, R>(shelf, index, cards, rows, &mut out[at..], &calls[i]);
-        at += calls[i].taken(left);
+        answers[i] = apply::<M, R>(shelf, index, cards, rows, &mut out[at..], call);
+        at += call.taken(left);
     }
     count
 }

@@ -3,7 +3,7 @@ use Rattle.std.proofs.Common.{◌≡◌, ◌≤◌, min, ◌++◌, length, take,
 use Rattle.std.proofs.lemmas.List.{length-take-le}
 use Rattle.networks.specs.Rows.{list_at}
 use Rattle.library.specs.Calls.{asked, lent_to, replied, taken}
-use Rattle.library.specs.Steps.{preview, entered, done, previewed, shown}
+use Rattle.library.specs.Steps.{entered, done, previewed, shown}
 use Rattle.library.specs.declared.calls.Answer.TheVariants.{Entered, Previewed, Done, Shown}
 use Rattle.library.proofs.Applying.{goes_as, plain_book, lent_part, same_lent, written_rest, written_book, previewed_room, shown_room}
 use Rattle.library.proofs.apply.apply.Goals as goal
@@ -41,7 +41,7 @@ returns-in-Preview g c =
     record {
       rest = written_rest (λ xs lens. previewed (list_at xs lens)) 128 o m (taken (length left) c.args.call.now) left c.open_preview.new.out cut long is
           (λ x b d st. subst (λ z. 128 ≤ z) fit (previewed_room st)) c.open_preview.result c.open_preview.ensures.same c.open_preview.ensures.book;
-      book = goes_as (ap asked c.in-Preview.is ∙ ap (λ w. preview w c.in-Preview.sheet.now) (sym c.width.ensures))
+      book = goes_as (ap asked c.in-Preview.is)
           (ap (lent_to (length c.args.rows.now) (length left)) c.in-Preview.is
           ∙ same_lent (lent_part c.min-n-in-Preview.result c.in-Preview.lent c.args.rows.now c.min-n-in-Preview.ensures) (sym cut ∙ sym fit))
           (ap (λ a. replied a (take (taken (length left) c.args.call.now) (c.open_preview.new.out ++ drop m left))) c.previewed.ensures)

@@ -10,8 +10,8 @@ loop-i-init g c = replayed_none _ _ _ _ _ _ _ _ _ c.new.ensures.book.0 c.new.ens
 pub loop-i-preserved : goal.loop-i-preserved
 loop-i-preserved g c =
     let k = c.loop-i.auto in
-    replayed_next _ (length c.loop-i.rows) c.taken-at.result c.apply.new.left c.apply.result c.apply.new.shelf c.apply.new.index c.apply.new.cards c.loop-i.invariant
-    (omega arith) (omega arith) k.out (same_sizes k.shelf k.index k.cards) k.rows c.taken-at.ensures c.apply.auto.left c.apply.ensures.rest c.apply.ensures.book
+    replayed_next c.index-calls-i.result (length c.loop-i.rows) c.taken-at.result c.apply.new.left c.apply.result c.apply.new.shelf c.apply.new.index c.apply.new.cards c.loop-i.invariant
+    (omega arith) (omega arith) c.index-calls-i.is k.out (same_sizes k.shelf k.index k.cards) k.rows c.taken-at.ensures c.apply.auto.left c.apply.ensures.rest c.apply.ensures.book
 
 pub returns : goal.returns
 returns g c =
