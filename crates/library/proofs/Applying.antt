@@ -8,7 +8,7 @@ use Rattle.costs.specs.declared.entry.Entry.{Entry}
 use Rattle.sheets.specs.Refusals.{framing_of, check_of}
 use Rattle.sheets.specs.declared.refusal.Refusal.{Refusal as SheetRefusal}
 use Rattle.library.specs.Books.{Rules, Book}
-use Rattle.library.specs.Calls.{asked, lent_to, replied}
+use Rattle.library.specs.Calls.{Answer, asked, lent_to, replied}
 use Rattle.library.specs.Checks.{Sizes, Lent, turned, Framed}
 use Rattle.library.specs.Law.{GoesOn}
 use Rattle.library.specs.Memory.{Stands}
@@ -17,7 +17,7 @@ use Rattle.library.specs.Replaying.{answered}
 use Rattle.library.specs.Replies.{reply}
 use Rattle.library.specs.Steps.{Ask, preview, card, Reply, previewed, shown, refused, Step, no_preview, previews, shows, Previewing, PreviewLacks}
 use Rattle.library.specs.Tables.{sizes_of}
-use Rattle.library.specs.declared.calls.Answer.{Answer}
+use Rattle.library.specs.declared.calls.Accepted.{Accepted}
 use Rattle.library.specs.declared.calls.Call.{Call}
 use Rattle.library.specs.declared.refusal.Refusal.{Refusal}
 use Rattle.library.specs.declared.row.Row.{Row}
@@ -32,7 +32,7 @@ goes_as {rules = rules} {ask' = ask'} {lent = lent} {lent' = lent'} {reply = rep
     (subst (λ z. GoesOn rules z lent reply s i c s' i' c') (sym a) goes))
 
 -- an answer without lists, whole
-pub replied_plain : {X M : Type 0} (make : X → Answer) (say : X → Reply M) (xs : List (Entry M)) → ((x : X) → replied (make x) xs ≡ say x) → (r : Result X Refusal) → replied (answered make r) xs ≡ reply say r
+pub replied_plain : {X M : Type 0} (make : X → Accepted) (say : X → Reply M) (xs : List (Entry M)) → ((x : X) → replied (Ok (make x)) xs ≡ say x) → (r : Result X Refusal) → replied (answered make r) xs ≡ reply say r
 replied_plain make say xs agrees (Ok x) = agrees x
 replied_plain make say xs agrees (Err e) = refl
 
@@ -58,8 +58,8 @@ pub same_lent : {a b a' b' : ℕ} → a ≡ a' → b ≡ b' → ◌≡◌ {A = L
 same_lent p q = ap₂ (λ x y. record { rows = x; out = y }) p q
 
 -- a call whose answer has no list
-pub plain_book : {M X : Type 0} {rules : Rules M} {lent : Lent} {s s' : List ℕ} {i i' : List Row} {c c' : List (Entry M)} (make : X → Answer) (say : X → Reply M)
-    → ((x : X) (xs : List (Entry M)) → replied (make x) xs ≡ say x) → (rows left : ℕ) (call call' : Call) (xs : List (Entry M)) (answer : Answer) (r : Result X Refusal)
+pub plain_book : {M X : Type 0} {rules : Rules M} {lent : Lent} {s s' : List ℕ} {i i' : List Row} {c c' : List (Entry M)} (make : X → Accepted) (say : X → Reply M)
+    → ((x : X) (xs : List (Entry M)) → replied (Ok (make x)) xs ≡ say x) → (rows left : ℕ) (call call' : Call) (xs : List (Entry M)) (answer : Answer) (r : Result X Refusal)
     → call ≡ call' → answer ≡ answered make r → lent_to rows left call' ≡ lent → GoesOn rules (asked call') lent (reply say r) s i c s' i' c'
     → GoesOn rules (asked call) (lent_to rows left call) (replied answer xs) s i c s' i' c'
 plain_book make say agrees rows left call call' xs answer r is said lends goes =
@@ -77,8 +77,8 @@ written_rest say k o m t left part cut long is room (Ok x) same goes b st =
     drop_at part (drop m left) t (long ∙ sym all) ∙ ap (λ n. drop n left) (sym all)
 written_rest say k o m t left part cut long is room (Err e) same goes b st = ap (drop t) (ap (λ xs. xs ++ drop m left) (same refl) ∙ take-append-drop m left)
 
-pub written_book : {M X : Type 0} {rules : Rules M} {ask : Ask} {lent : Lent} {s : List ℕ} {i : List Row} {c : List (Entry M)} (make : X → Answer) (say : List (Entry M) → X → Reply M)
-    → ((x : X) (xs : List (Entry M)) → replied (make x) xs ≡ say xs x) → (k o m t : ℕ) (left part : List (Entry M))
+pub written_book : {M X : Type 0} {rules : Rules M} {ask : Ask} {lent : Lent} {s : List ℕ} {i : List Row} {c : List (Entry M)} (make : X → Accepted) (say : List (Entry M) → X → Reply M)
+    → ((x : X) (xs : List (Entry M)) → replied (Ok (make x)) xs ≡ say xs x) → (k o m t : ℕ) (left part : List (Entry M))
     → m ≡ min k (min o (length left)) → length part ≡ m → t ≡ cond (leb k (min o (length left))) k 0
     → ((x : X) (b d : Book M) → Step rules (sizes_of s i c) b ask lent (say part x) d → k ≤ m)
     → (r : Result X Refusal) → GoesOn rules ask lent (reply (say part) r) s i c s i c → GoesOn rules ask lent (replied (answered make r) (take t (part ++ drop m left))) s i c s i c

@@ -4,11 +4,10 @@ use Rattle.std.proofs.lemmas.List.{take_more, take_more_set, take-take, drop-tak
 use Rattle.std.proofs.lemmas.Bool.{cond_both, leb-true}
 use Rattle.costs.specs.declared.entry.Entry.{Entry}
 use Rattle.library.specs.Books.{Rules, Book}
-use Rattle.library.specs.Calls.{asked, out_for, takes, lent_to, taken, cursor, asks, replied, replies}
+use Rattle.library.specs.Calls.{Answer, asked, out_for, takes, lent_to, taken, cursor, asks, replied, replies}
 use Rattle.library.specs.Checks.{Sizes}
 use Rattle.library.specs.Steps.{Step, History, later}
 use Rattle.library.specs.declared.calls.Call.{Call}
-use Rattle.library.specs.declared.calls.Answer.{Answer}
 
 -- a call takes no more of the caller's rows than are left
 pub taken_within : (left : ℕ) (call : Call) → taken left call ≤ left

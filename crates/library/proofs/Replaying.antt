@@ -3,13 +3,12 @@ use Rattle.std.proofs.Common.{◌≡◌, ℕ, ◌+◌, ◌-◌, ◌<◌, ◌≤�
 use Rattle.std.proofs.lemmas.List.{append-nil, take_rest, drop_all, take_more, take_at, drop_at, drop-drop, drop-set-lt, length-take-le, length-drop, length-append}
 use Rattle.costs.specs.declared.entry.Entry.{Entry}
 use Rattle.library.specs.Books.{Rules, Book, empty}
-use Rattle.library.specs.Calls.{asked, lent_to, taken, cursor, asks, replied, replies}
+use Rattle.library.specs.Calls.{Answer, asked, lent_to, taken, cursor, asks, replied, replies}
 use Rattle.library.specs.Checks.{Sizes}
 use Rattle.library.specs.Law.{Sound, GoesOn}
 use Rattle.library.specs.Memory.{Stands}
 use Rattle.library.specs.Steps.{Step, History, begun}
 use Rattle.library.specs.Tables.{sizes_of}
-use Rattle.library.specs.declared.calls.Answer.{Answer}
 use Rattle.library.specs.declared.calls.Call.{Call}
 use Rattle.library.specs.declared.row.Row.{Row}
 use Rattle.library.proofs.Histories.{taken_within, cursor_push, history_more}

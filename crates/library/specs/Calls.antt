@@ -1,5 +1,5 @@
 -- A list of calls and the answers that were collected, as what was asked and what was replied. Assumes nothing.
-use Rattle.std.specs.Prelude.{ℕ, ◌+◌, ◌-◌, min, cond, List, [], ◌∷◌, length, take, drop, nat_le}
+use Rattle.std.specs.Prelude.{ℕ, ◌+◌, ◌-◌, min, cond, List, [], ◌∷◌, length, take, drop, nat_le, Result, Ok, Err}
 use Rattle.costs.specs.declared.entry.Entry.{Entry}
 use Rattle.networks.specs.Rows.{list_at}
 use Rattle.library.specs.Checks.{Lent}
@@ -7,8 +7,9 @@ use Rattle.library.specs.Refusals.{told}
 use Rattle.library.specs.Steps.{Ask, enter, preview, retime, rework, card, Asked, Reply, entered, previewed, done, shown, refused}
 use Rattle.library.specs.declared.calls.Call.{Call}
 use Rattle.library.specs.declared.calls.Call.TheVariants.{Enter, Preview, Retime, Rework, Card}
-use Rattle.library.specs.declared.calls.Answer.{Answer}
-use Rattle.library.specs.declared.calls.Answer.TheVariants.{Entered, Previewed, Done, Shown, Refused}
+use Rattle.library.specs.declared.calls.Accepted.{Accepted}
+use Rattle.library.specs.declared.calls.Accepted.TheVariants.{Entered, Previewed, Done, Shown}
+use Rattle.library.specs.declared.refusal.Refusal.{Refusal}
 
 -- what a call asks
 abbrev pub asked : Call → Ask
@@ -60,13 +61,17 @@ abbrev pub asks : ℕ → ℕ → List Call → List Asked
 asks rows left [] = []
 asks rows left (call ∷ calls) = record { ask = asked call; lent = lent_to rows left call } ∷ asks rows (left - taken left call) calls
 
+-- what a call answers: that it is accepted, or why it is turned down
+abbrev pub Answer : Type 0
+Answer = Result Accepted Refusal
+
 -- an answer, whole: its lists stand in these rows, which its call took
 abbrev pub replied : {M : Type 0} → Answer → List (Entry M) → Reply M
-replied (Entered n) out = entered n
-replied (Previewed lens) out = previewed (list_at out lens)
-replied Done out = done
-replied (Shown len) out = shown (take len out)
-replied (Refused e) out = refused (told e)
+replied (Ok (Entered n)) out = entered n
+replied (Ok (Previewed lens)) out = previewed (list_at out lens)
+replied (Ok Done) out = done
+replied (Ok (Shown len)) out = shown (take len out)
+replied (Err e) out = refused (told e)
 
 -- the answers of a list of calls, whole, each with the rows that its call took
 abbrev pub replies : {M : Type 0} → List Call → List Answer → List (Entry M) → List (Reply M)

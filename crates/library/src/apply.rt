@@ -8,9 +8,9 @@ ghost use Rattle.library.specs.Memory.{Stands};
 ghost use Rattle.library.specs.Replies.{reply};
 ghost use Rattle.library.specs.Replaying.{answered};
 ghost use Rattle.library.specs.Steps.{preview as ask_preview, previewed as previewed_card};
-ghost use Rattle.library.specs.declared.calls.Answer.TheVariants.{Entered, Previewed, Done, Shown};
+ghost use Rattle.library.specs.declared.calls.Accepted.TheVariants.{Entered, Previewed, Done, Shown};
 
-use crate::calls::{Answer, Call};
+use crate::calls::{Accepted, Answer, Call};
 use crate::card::card;
 use crate::enter::enter;
 use crate::preview::preview;
@@ -23,42 +23,6 @@ use costs::measure::Measure;
 use costs::reducer::Reducer;
 use sheets::opened::{Opened, framing};
 use sheets::width::Width;
-
-fn entered(r: Result<usize, Refusal>) -> Answer
-    ensures { result ≡ answered Entered r }
-{
-    match r {
-        Ok(block) => Answer::Entered { block },
-        Err(e) => Answer::Refused(e),
-    }
-}
-
-fn previewed(r: Result<[usize; 8], Refusal>) -> Answer
-    ensures { result ≡ answered Previewed r }
-{
-    match r {
-        Ok(lens) => Answer::Previewed { lens },
-        Err(e) => Answer::Refused(e),
-    }
-}
-
-fn done(r: Result<(), Refusal>) -> Answer
-    ensures { result ≡ answered (λ _. Done) r }
-{
-    match r {
-        Ok(()) => Answer::Done,
-        Err(e) => Answer::Refused(e),
-    }
-}
-
-fn shown(r: Result<usize, Refusal>) -> Answer
-    ensures { result ≡ answered Shown r }
-{
-    match r {
-        Ok(len) => Answer::Shown { len },
-        Err(e) => Answer::Refused(e),
-    }
-}
 
 // Opens a sheet's bytes, checks them at the width and previews the sheet; what stops it first is answered.
 fn open_preview<M: Measure, R: Reducer<M>>(
@@ -99,7 +63,9 @@ pub(crate) fn apply<M: Measure, R: Reducer<M>>(
     match call {
         Call::Enter { sheet, rows: lent } => {
             let n = (*lent).min(rows.len());
-            entered(enter::<M, R>(shelf, index, cards, &mut rows[..n], sheet))
+            enter::<M, R>(shelf, index, cards, &mut rows[..n], sheet).map(
+                |block| Accepted::Entered { block },
+            )
         }
         Call::Preview {
             sheet,
@@ -109,7 +75,7 @@ pub(crate) fn apply<M: Measure, R: Reducer<M>>(
         } => {
             let n = (*lent).min(rows.len());
             let m = (*out).min(left.len()).min(128);
-            previewed(open_preview::<M, R>(
+            open_preview::<M, R>(
                 shelf,
                 index,
                 cards,
@@ -117,20 +83,27 @@ pub(crate) fn apply<M: Measure, R: Reducer<M>>(
                 sheet,
                 *width,
                 &mut left[..m],
-            ))
+            )
+            .map(
+                |lens|
+                    ensures { result ≡ Previewed lens }
+                { Accepted::Previewed { lens } },
+            )
         }
         Call::Retime {
             block,
             algorithm,
             amount,
-        } => done(retime::<M, R>(shelf, index, *block, *algorithm, amount)),
+        } => retime::<M, R>(shelf, index, *block, *algorithm, amount).map(|()| Accepted::Done),
         Call::Rework { block, rows: lent } => {
             let n = (*lent).min(rows.len());
-            done(rework::<M, R>(shelf, index, cards, &mut rows[..n], *block))
+            rework::<M, R>(shelf, index, cards, &mut rows[..n], *block).map(|()| Accepted::Done)
         }
         Call::Card { block, event, out } => {
             let m = (*out).min(left.len()).min(16);
-            shown(card::<M, R>(index, cards, *block, *event, &mut left[..m]))
+            card::<M, R>(index, cards, *block, *event, &mut left[..m]).map(|len| Accepted::Shown {
+                len,
+            })
         }
     }
 }

@@ -50,9 +50,9 @@ impl<'a> Call<'a> {
     }
 }
 
-// What a call answers; the lists of a preview and of a card stand in the caller's rows.
+// What an accepted call answers; the lists of a preview and of a card stand in the caller's rows.
 #[derive(Clone, Copy)]
-pub enum Answer {
+pub enum Accepted {
     // the number of the new block
     Entered { block: usize },
     // the lengths of the eight lists
@@ -60,5 +60,7 @@ pub enum Answer {
     Done,
     // the length of the list
     Shown { len: usize },
-    Refused(Refusal),
 }
+
+// What a call answers: that it is accepted, or why it is turned down.
+pub type Answer = Result<Accepted, Refusal>;
