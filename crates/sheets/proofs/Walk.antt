@@ -1,9 +1,16 @@
 -- The fields of a sheet, one after another. Assumes nothing.
-use Rattle.std.proofs.Common.{◌≡◌, ℕ, zero, suc, ◌+◌, ◌*◌, ◌≤◌, Bool, true, false, cond, List, [], ◌∷◌, length, drop, Some, None, Option, sym, refl, ap, ◌∙◌, arith}
+use Rattle.std.proofs.Common.{◌≡◌, ℕ, zero, suc, ◌+◌, ◌*◌, ◌≤◌, Bool, true, false, cond, List, [], ◌∷◌, map, length, drop, Some, None, Option, sym, refl, ap, ◌∙◌, zero-add, arith}
 use Rattle.std.specs.Option.{option_map}
+use Rattle.std.specs.List.{last_or}
+use Rattle.std.specs.Iterator.{Drains, YieldsFirstBy}
+use Rattle.std.proofs.lemmas.Iterator.Consumers.{YieldsList-from_first, YieldsList-end}
 use Rattle.std.proofs.lemmas.List.{length-take-le, length-drop}
 use Rattle.std.proofs.lemmas.Bool.{leb-true}
 use Rattle.sheets.specs.Frames.{Raw, size, field_at, with, fields_in, fields, laid, span, Turn}
+use Rattle.sheets.specs.Parts.{raw}
+use Rattle.sheets.specs.Places.{place, to_come}
+use Rattle.sheets.specs.declared.fields.Fields.{Fields}
+use Rattle.sheets.specs.declared.fields.Placed.{Placed}
 
 pub cond_some : {X : Type 0} (b : Bool) (x y : X) → cond b (Some x) None ≡ Some y → (b ≡ true) × (x ≡ y)
 cond_some true x y e = (refl, cc)
@@ -79,6 +86,48 @@ turn rest f after e d =
       off = off;
     }
 
--- the offset reached where no field is left
-pub reached : (bs rest : List ℕ) (at : ℕ) → at + span (fields rest) ≡ span (fields bs) → None ≡ field_at rest → at ≡ span (fields bs)
-reached bs rest at e n = omega (arith, e, ap span (fields_end rest (sym n)))
+-- x is the first of the fields `more`, the first of which stands at `at`, and rest is what follows it, with its offsets
+pub record Next (at : ℕ) (more : List Raw) (x : Placed) (rest : List (ℕ × Raw)) : Type 0 where
+  pub after : List Raw
+  pub here : x.at ≡ at
+  pub is : more ≡ raw x.part ∷ after
+  pub end : x.end ≡ at + size (raw x.part)
+  pub left : rest ≡ laid x.end after
+
+pub next : (at : ℕ) (more : List Raw) (x : Placed) (rest : List (ℕ × Raw)) → laid at more ≡ place x ∷ rest → Next at more x rest
+next at [] x rest e = let z : ◌≡◌ {A = ℕ} 0 1 = cc in absurd (omega arith)
+next at (f ∷ fs) x rest e =
+    let first : ◌≡◌ {A = ℕ × Raw} (at, f) (place x) = cc in
+    let others : laid (at + size f) fs ≡ rest = cc in
+    let is : f ≡ raw x.part = ap (λ p. p.1) first in
+    let here : at ≡ x.at = ap (λ p. p.0) first in
+    let end : x.end ≡ at + size f = omega (arith, x.long, here, ap size is) in
+    record {
+      after = fs;
+      here = sym here;
+      is = ap (λ g. g ∷ fs) is;
+      end = end ∙ ap (λ g. at + size g) is;
+      left = sym others ∙ ap (λ n. laid n fs) (sym end);
+    }
+
+pub none_left : (at : ℕ) (more : List Raw) → laid at more ≡ [] → more ≡ []
+none_left at [] e = refl
+none_left at (f ∷ fs) e = let z : ◌≡◌ {A = ℕ} 0 1 = cc in absurd (omega arith)
+
+-- where a field ends, and 0 where there is none
+abbrev pub end_or : Option Placed → ℕ
+end_or None = 0
+end_or (Some x) = x.end
+
+-- the last field ends where all of them do
+pub ends : (n : ℕ) (o : Option Placed) (xs : List Placed) (fs : List Raw) → end_or o ≡ n → map place xs ≡ laid n fs → end_or (last_or o xs) ≡ n + span fs
+ends n o [] fs at e = omega (arith, at, ap span (none_left n fs (sym e)))
+ends n o (x ∷ xs) fs at e =
+    let t = next n fs x (map place xs) (sym e) in
+    omega (arith, ends x.end (Some x) xs t.after refl t.left, t.end, ap span t.is)
+
+-- what `last` gives of all fields from the first
+pub last_ends : (s : Fields) (fs : List Raw) (r : Option Placed) → to_come s ≡ laid 0 fs → (xs : List Placed) × Drains (YieldsFirstBy place to_come) s xs × (r ≡ last_or None xs) → end_or r ≡ span fs
+last_ends s fs r all ran =
+    let drained = YieldsList-end (YieldsList-from_first place to_come (laid 0 fs) all) ran.0 ran.1.1.0 ran.1.1.1 None ran.1.0 refl ran.1.1.2 in
+    ap end_or ran.2 ∙ ends 0 None ran.0 fs refl drained.0 ∙ zero-add _

@@ -7,8 +7,8 @@ ghost use Rattle.sheets.specs.Lawful.{Grammatical};
 ghost use Rattle.sheets.specs.Split.{Framing};
 ghost use Rattle.sheets.specs.Refusals.{framing_of, check_of, both_of};
 
+use crate::fields::Fields;
 use crate::grammar::Seen;
-use crate::part::first;
 use crate::refusal::Refusal;
 use crate::width::Width;
 
@@ -17,16 +17,11 @@ pub fn framing(bytes: &[u8]) -> Result<(), Refusal>
     ensures value { result ≡ framing_of bytes.now }
     ensures means { Framing bytes.now result }
 {
-    let mut rest = bytes;
-    let mut at: usize = 0;
-    while let Some((part, after)) = first(rest) {
-        at += 3 + part.content.len();
-        rest = after;
-    }
-    if at == bytes.len() {
+    let end = Fields::of(bytes).last().map_or(0, |field| field.end);
+    if end == bytes.len() {
         Ok(())
     } else {
-        Err(Refusal::Cut { at })
+        Err(Refusal::Cut { at: end })
     }
 }
 
@@ -34,27 +29,23 @@ pub fn framing(bytes: &[u8]) -> Result<(), Refusal>
 fn grammar(bytes: &[u8], width: Width) -> Result<(), Refusal>
     ensures { result ≡ check_of width.bytes bytes.now }
 {
-    let Some((head, tail)) = first(bytes) else {
-        return Err(Refusal::Grammar { at: 0 });
-    };
-    let Some(start) = Seen::start(head) else {
-        return Err(Refusal::Grammar { at: 0 });
-    };
-    let mut seen = start;
-    let mut rest = tail;
-    let mut at: usize = 6;
-    while let Some((part, after)) = first(rest) {
-        if !seen.allows(width, part) {
-            return Err(Refusal::Grammar { at });
+    let mut fields = Fields::of(bytes);
+    let mut seen = fields
+        .next()
+        .and_then(|head| Seen::start(head.part))
+        .ok_or(Refusal::Grammar { at: 0 })?;
+    let mut end = 6;
+    for field in fields {
+        if !seen.allows(width, field.part) {
+            return Err(Refusal::Grammar { at: field.at });
         }
-        seen.note(part);
-        at += 3 + part.content.len();
-        rest = after;
+        seen.note(field.part);
+        end = field.end;
     }
     if seen.complete() {
         Ok(())
     } else {
-        Err(Refusal::Grammar { at })
+        Err(Refusal::Grammar { at: end })
     }
 }
 

@@ -1,38 +1,54 @@
-use Rattle.std.proofs.Common.{sym, ap, ◌∙◌}
+use Rattle.std.proofs.Common.{◌≡◌, Some, None, Err, MatchOption, sym, ap, subst, ◌∙◌, rules}
 use Rattle.std.proofs.lemmas.Bool.{and_parts, cond-true, cond-false}
+use Rattle.sheets.specs.Parts.{raw}
+use Rattle.sheets.specs.Places.{to_come}
+use Rattle.sheets.specs.Seen.{Started}
 use Rattle.sheets.specs.Refusals.{refused_at, check_of}
-use Rattle.sheets.proofs.Sofar.{no_start, bad_start, start, again, stopped, ended}
+use Rattle.sheets.specs.declared.refusal.Refusal.TheVariants.{Grammar}
+use Rattle.sheets.proofs.Sofar.{Sofar, no_start, start, again, stopped, ended}
 use Rattle.sheets.proofs.opened.grammar.Goals as goal
 
-pub loop-part-init : goal.loop-part-init
-loop-part-init c = start c.args.width.bytes _ _ _ c.in-Some.ensures.turn c.in-Some-start.start c.in-Some-start.ensures
+pub returns-in_err-seen : goal.returns-in_err-seen
+unfolding check_of
+returns-in_err-seen c =
+    let w = c.args.width.bytes in
+    let bs = c.args.bytes.now in
+    let made : MatchOption c.next.result (c.and_then.result ≡ None) (λ x. Started (raw x.part) c.and_then.result) = search rules in
+    let none : c.and_then.result ≡ None = search rules in
+    let at = no_start w bs c.of-fields.result c.next.new.self c.next.result c.and_then.result c.of-fields.ensures c.next.ensures.steps made none in
+    let is : check_of w bs ≡ Err (Grammar 0) = ap refused_at at in
+    search rules
+
+pub loop-field-init : goal.loop-field-init
+loop-field-init c =
+    let made : MatchOption c.next.result (c.and_then.result ≡ None) (λ x. Started (raw x.part) c.and_then.result) = search rules in
+    let some : c.and_then.result ≡ Some c.in_ok-seen.seen = search rules in
+    let w = c.args.width.bytes in
+    let bs = c.args.bytes.now in
+    let began = start w bs c.of-fields.result c.next.new.self c.next.result c.and_then.result c.of-fields.ensures c.next.ensures.steps made c.in_ok-seen.seen some in
+    subst (λ t. Sofar w bs (to_come t) 6 c.in_ok-seen.seen) (sym c.into_iter-field-iterator.ensures.into_iter_gives) began
+
+pub allows-requires : goal.allows-requires
+allows-requires c = record { few = c.loop-field.invariant.sums.few }
 
 pub returns-then-not-allows : goal.returns-then-not-allows
 unfolding check_of
 returns-then-not-allows c =
-    sym (ap refused_at (stopped _ _ _ _ _ c.loop-part.invariant _ _ c.in-Some-first.ensures.turn (sym c.if-not-allows.ensures)))
+    sym (ap refused_at (stopped _ _ _ _ _ c.loop-field.invariant c.in-Some.field _ c.in-Some.ensures.steps (sym c.if-not-allows.ensures)))
 
 pub note-requires : goal.note-requires
-note-requires c = record { few = c.loop-part.invariant.sums.few; room = (and_parts _ _ (sym c.if-not-allows.ensures)).1 }
+note-requires c = record { few = c.loop-field.invariant.sums.few; room = (and_parts _ _ (sym c.if-not-allows.ensures)).1 }
 
-pub loop-part-preserved : goal.loop-part-preserved
-loop-part-preserved c =
-    again _ _ _ _ _ c.loop-part.invariant _ _ c.note.new.self c.in-Some-first.ensures.turn (sym c.if-not-allows.ensures) c.note.ensures
+pub loop-field-preserved : goal.loop-field-preserved
+loop-field-preserved c =
+    again _ _ _ _ _ c.loop-field.invariant c.in-Some.field _ c.in-Some.ensures.steps c.note.new.self (sym c.if-not-allows.ensures) c.note.ensures
 
 pub returns-then-complete : goal.returns-then-complete
 unfolding check_of
 returns-then-complete c =
-    sym (ap refused_at (ended _ _ _ _ _ c.loop-part.invariant c.in_default-first.ensures.turn ∙ cond-true _ _ _ (sym c.if-complete.ensures)))
+    sym (ap refused_at (ended _ _ _ _ _ c.loop-field.invariant c.in-None.ensures.steps.0 ∙ cond-true _ _ _ (sym c.if-complete.ensures)))
 
 pub returns-else-complete : goal.returns-else-complete
 unfolding check_of
 returns-else-complete c =
-    sym (ap refused_at (ended _ _ _ _ _ c.loop-part.invariant c.in_default-first.ensures.turn ∙ cond-false _ _ _ (sym c.if-complete.ensures)))
-
-pub returns-in_default : goal.returns-in_default
-unfolding check_of
-returns-in_default c = sym (ap refused_at (no_start _ _ c.in_default.ensures.turn))
-
-pub returns-in_default-start : goal.returns-in_default-start
-unfolding check_of
-returns-in_default-start c = sym (ap refused_at (bad_start _ _ _ _ c.in-Some.ensures.turn c.in_default-start.ensures))
+    sym (ap refused_at (ended _ _ _ _ _ c.loop-field.invariant c.in-None.ensures.steps.0 ∙ cond-false _ _ _ (sym c.if-complete.ensures)))
