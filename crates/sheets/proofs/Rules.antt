@@ -1,23 +1,22 @@
 -- What the check remembers is what the grammar asks. Assumes nothing.
-use Rattle.std.proofs.Common.{◌≡◌, ℕ, zero, suc, ◌+◌, ◌<◌, ◌≤◌, Bool, true, false, cond, ◌&&◌, eqb, ltb, leb, List, [], ◌∷◌, ◌++◌, length, get_or, sym, refl, ap, ◌∙◌, ⊎_elim, add-one, arith}
+use Rattle.std.proofs.Common.{◌≡◌, ℕ, zero, suc, ◌+◌, ◌<◌, ◌≤◌, Bool, true, false, cond, ◌&&◌, eqb, ltb, leb, List, [], ◌∷◌, ◌++◌, length, get_or, take, sym, refl, ap, ◌∙◌, ⊎_elim, add-one, arith}
 use Rattle.std.proofs.lemmas.List.{length-set, get_or-set_same, get_or-set_other}
-use Rattle.std.proofs.lemmas.Bool.{cases_eq, cases_lt, and_parts, and_from, and_left, and_right, cond-true, cond-false, eq-eqb, ne_eqb, lt-ltb, le-ltb, leb-true, le-leb, lt-leb}
+use Rattle.std.specs.List.{list_all}
+use Rattle.std.proofs.lemmas.List.Folds.{list_all_more}
+use Rattle.std.proofs.Math.Bool.{and_comm}
+use Rattle.std.proofs.lemmas.Bool.{cases_eq, cases_lt, and_parts, and_from, and_left, and_right, cond-true, cond-false, eq-eqb, ne_eqb, lt-ltb, le-ltb, leb-true}
 use Rattle.std.proofs.lemmas.Bool.Decides.{nat_tests}
 use Rattle.sheets.specs.Frames.{Raw}
 use Rattle.sheets.specs.Grammar.{byte, count, entries, highest, lower, first_is, room, follows, each_event, complete, most_of}
+use Rattle.sheets.specs.Tags.{kind_number}
 use Rattle.sheets.specs.Seen.{lower_in, room_in, allows_in, each_in, complete_in, more_at, Noted}
-use Rattle.sheets.specs.declared.grammar.Seen.{Seen}
+use Rattle.sheets.specs.declared.seen.Seen.{Seen}
 
-pub each_more : (n : ℕ) (es : List ℕ) → each_in n es ≡ true → (get_or es n 0 ≡ 0 → ⊥) → each_in (n + 1) es ≡ true
-each_more n es h k = rw add-one (and_from _ _ (le-leb 1 (get_or es n 0) (omega arith)) h)
-
-pub each_not : (n e : ℕ) (es : List ℕ) → e < n → get_or es e 0 ≡ 0 → each_in n es ≡ false
-each_not zero e es h z = absurd (omega arith)
-each_not (suc n) e es h z =
-    ⊎_elim
-    (λ same. and_left _ _ (lt-leb 1 (get_or es n 0) (omega (arith, ap (λ i. get_or es i 0) same))))
-    (λ other. and_right _ _ (each_not n e es (omega arith) z))
-    (cases_eq e n)
+pub each_all : (n : ℕ) (es : List ℕ) → n ≤ length es → list_all (leb 1) (take n es) ≡ each_in n es
+each_all zero es k = refl
+each_all (suc n) es k =
+    ap (λ m. list_all (leb 1) (take m es)) (sym (add-one n)) ∙ list_all_more (leb 1) es n 0 (omega arith)
+    ∙ and_comm (list_all (leb 1) (take n es)) (leb 1 (get_or es n 0)) ∙ ap (λ b. leb 1 (get_or es n 0) && b) (each_all n es (omega arith))
 
 pub count_push : (t : ℕ) (fs : List Raw) (f : Raw) → count t (fs ++ f ∷ []) ≡ count t fs + cond (eqb f.tag t) 1 0
 count_push t [] f = omega arith
@@ -63,10 +62,9 @@ same_long false xs i = (length-set xs i _, refl)
 
 -- s remembers the interface and the fields after it
 pub record Sums (head : Raw) (fs : List Raw) (s : Seen) : Type 0 where
-  pub kind : s.kind ≡ byte head 0
+  pub kind : kind_number s.kind ≡ byte head 0
   pub inputs : s.inputs ≡ byte head 1
   pub outputs : s.outputs ≡ byte head 2
-  pub few : s.inputs ≤ 8
   pub last : s.last ≡ highest fs
   pub eight : length s.counts ≡ 8
   pub eight' : length s.entries ≡ 8
@@ -125,15 +123,14 @@ module _ (head : Raw) (fs : List Raw) (s : Seen) (h : Sums head fs s) where
       let upto : leb s.last f.tag ≡ true = (and_parts _ _ (and_parts _ _ (and_parts _ _ ok).0).0).1 in
       let above : s.last ≤ f.tag = leb-true s.last f.tag upto in
       record {
-        kind = k.kind ∙ h.kind;
+        kind = ap kind_number k.kind ∙ h.kind;
         inputs = k.inputs ∙ h.inputs;
         outputs = k.outputs ∙ h.outputs;
-        few = omega (arith, k.inputs, h.few);
         last = k.last ∙ sym (highest_push fs f (omega (arith, h.last)));
         eight = ap length k.counts ∙ (same_long (eqb f.tag 5) s.counts f.tag).0 ∙ h.eight;
         eight' = ap length k.entries ∙ (same_long _ s.entries (byte f 0)).1 ∙ h.eight';
         counts = λ t lt not5. omega (arith, counts_more s.counts n.counts f.tag k.counts t (omega (arith, h.eight)) not5, h.counts t lt not5, count_push t fs f);
         entries = λ e lt.
             let low : e < s.inputs = omega (arith, k.inputs) in
-            omega (arith, entries_more s.entries n.entries f.tag (byte f 0) s.inputs k.entries e (omega (arith, h.eight', h.few)) low, h.entries e low, entries_push e fs f);
+            omega (arith, entries_more s.entries n.entries f.tag (byte f 0) s.inputs k.entries e (omega (arith, h.eight', s.few)) low, h.entries e low, entries_push e fs f);
       }

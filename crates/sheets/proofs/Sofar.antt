@@ -10,7 +10,7 @@ use Rattle.sheets.specs.declared.fields.Placed.{Placed}
 use Rattle.sheets.specs.declared.fields.Fields.{Fields}
 use Rattle.sheets.specs.Grammar.{walk, fault}
 use Rattle.sheets.specs.Seen.{allows_in, complete_in, Noted, Started}
-use Rattle.sheets.specs.declared.grammar.Seen.{Seen}
+use Rattle.sheets.specs.declared.seen.Seen.{Seen}
 use Rattle.sheets.proofs.Walk.{Next, next, none_left}
 use Rattle.sheets.proofs.Rules.{Sums, allows_is, complete_is, sums_more}
 
@@ -37,12 +37,11 @@ started w bs x left (Some s) t h =
         kind = h.1;
         inputs = h.2;
         outputs = h.3;
-        few = h.8;
         last = h.4;
         eight = ap length h.5;
         eight' = ap length h.6;
         counts = λ i lt not5. ap (λ l. get_or l i 0) h.5 ∙ get_or-replicate 8 i 0 0 lt;
-        entries = λ e lt. ap (λ l. get_or l e 0) h.6 ∙ get_or-replicate 8 e 0 0 (omega (arith, h.8));
+        entries = λ e lt. ap (λ l. get_or l e 0) h.6 ∙ get_or-replicate 8 e 0 0 (omega (arith, s.few));
       };
       goes = sym (ap (fault w) t.is ∙ cond-true _ _ _ h.0 ∙ ap (λ n. walk w (raw x.part) [] n t.after) six);
     }

@@ -2,6 +2,7 @@ pub mod Frames
 pub mod Parts
 pub mod Places
 pub mod Fields
+pub mod Tags
 pub mod Grammar
 pub mod Seen
 pub mod Refusals

@@ -1,8 +1,9 @@
 -- The grammar by what the check remembers. Assumes nothing.
-use Rattle.std.specs.Prelude.{◌≡◌, ℕ, zero, suc, ◌+◌, ◌≤◌, Bool, true, false, cond, ◌&&◌, List, length, replicate, Some, None, Option, ◌==◌, nat_le, nat_lt, slice_index, slice_set}
+use Rattle.std.specs.Prelude.{◌≡◌, ℕ, zero, suc, ◌+◌, Bool, true, false, cond, ◌&&◌, List, length, replicate, Some, None, Option, ◌==◌, nat_le, nat_lt, slice_index, slice_set}
 use Rattle.sheets.specs.Frames.{Raw}
 use Rattle.sheets.specs.Grammar.{byte, heads_of, first_is, belongs_to, fits_of, most_of}
-use Rattle.sheets.specs.declared.grammar.Seen.{Seen}
+use Rattle.sheets.specs.Tags.{kind_number}
+use Rattle.sheets.specs.declared.seen.Seen.{Seen}
 
 abbrev pub lower_in : Seen → ℕ → Bool
 lower_in s t =
@@ -18,7 +19,7 @@ room_in s f =
 
 abbrev pub allows_in : ℕ → Seen → Raw → Bool
 allows_in w s f =
-    belongs_to s.kind f.tag && fits_of w s.outputs f.tag (length f.content)
+    belongs_to (kind_number s.kind) f.tag && fits_of w s.outputs f.tag (length f.content)
     && nat_le s.last f.tag && lower_in s f.tag && room_in s f
 
 -- each of the first n counts is above zero
@@ -28,8 +29,8 @@ each_in (suc n) es = nat_le 1 (slice_index es n) && each_in n es
 
 abbrev pub complete_in : Seen → Bool
 complete_in s =
-    cond (s.kind == 1) (nat_le 1 (slice_index s.counts 2) && nat_le 1 (slice_index s.counts 3))
-    (cond (s.kind == 2) (each_in s.inputs s.entries)
+    cond (kind_number s.kind == 1) (nat_le 1 (slice_index s.counts 2) && nat_le 1 (slice_index s.counts 3))
+    (cond (kind_number s.kind == 2) (each_in s.inputs s.entries)
     (nat_le 1 (slice_index s.counts 6)))
 
 abbrev pub more_at : List ℕ → ℕ → List ℕ
@@ -46,5 +47,5 @@ pub record Noted (s : Seen) (f : Raw) (n : Seen) : Type 0 where
 
 abbrev pub Started : Raw → Option Seen → Type 0
 Started f None = heads_of f ≡ false
-Started f (Some s) = (heads_of f ≡ true) × (s.kind ≡ byte f 0) × (s.inputs ≡ byte f 1) × (s.outputs ≡ byte f 2) × (s.last ≡ 1)
-    × (s.counts ≡ replicate 8 0) × (s.entries ≡ replicate 8 0) × (length f.content ≡ 3) × (s.inputs ≤ 8)
+Started f (Some s) = (heads_of f ≡ true) × (kind_number s.kind ≡ byte f 0) × (s.inputs ≡ byte f 1) × (s.outputs ≡ byte f 2) × (s.last ≡ 1)
+    × (s.counts ≡ replicate 8 0) × (s.entries ≡ replicate 8 0) × (length f.content ≡ 3)

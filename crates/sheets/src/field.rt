@@ -7,6 +7,7 @@ ghost use Rattle.sheets.specs.Reading.{as_interface, as_amounts, as_actions, as_
 ghost use Rattle.sheets.specs.Parts.{raw};
 
 use crate::part::Part;
+use crate::tag::Tag;
 use crate::width::Width;
 use crate::words::{Connection, End, Interface, Kind, Transition};
 
@@ -34,7 +35,7 @@ pub struct ServiceEntry<'a> {
 }
 
 // A number in one byte, where 255 stands for none.
-pub(crate) fn number(byte: u8) -> Option<u8>
+pub(crate) fn optional(byte: u8) -> Option<u8>
     ensures { result ≡ number_of byte }
 {
     (byte != 255).then_some(byte)
@@ -43,7 +44,7 @@ pub(crate) fn number(byte: u8) -> Option<u8>
 fn end(instance: u8, port: u8) -> End
     ensures { result ≡ end_of instance port }
 {
-    match number(instance) {
+    match optional(instance) {
         Some(instance) => End::Inside { instance, port },
         None => End::Outside { port },
     }
@@ -72,7 +73,7 @@ fn transition<'a>(content: &'a [u8]) -> Option<Field<'a>>
     Some(Field::Transition(Transition {
         source: *source,
         destination: *destination,
-        event: number(*event),
+        event: optional(*event),
     }))
 }
 
@@ -186,14 +187,13 @@ impl<'a> Field<'a> {
 pub(crate) fn read<'a>(part: Part<'a>) -> Option<Field<'a>>
     ensures { option_map said result ≡ field_of (raw part.entry) }
 {
-    match part.tag {
-        1 => interface(part.content),
-        2 => Some(Field::Amounts(part.content)),
-        3 => Some(Field::Actions(part.content)),
-        4 => transition(part.content),
-        5 => entry(part.content),
-        6 => instance(part.content),
-        7 => connection(part.content),
-        _ => None,
+    match Tag::try_from(part.tag).ok()? {
+        Tag::Interface => interface(part.content),
+        Tag::Amounts => Some(Field::Amounts(part.content)),
+        Tag::State => Some(Field::Actions(part.content)),
+        Tag::Transition => transition(part.content),
+        Tag::Entry => entry(part.content),
+        Tag::Instance => instance(part.content),
+        Tag::Connection => connection(part.content),
     }
 }

@@ -1,87 +1,70 @@
 // Which field may follow which.
-ghost use Rattle.std.specs.Prelude.{◌≡◌, ◌≤◌, true};
+ghost use Rattle.std.specs.Prelude.{◌≡◌, true, nat_le, slice_index, IsTrue};
 ghost use Rattle.sheets.specs.Parts.{raw};
-ghost use Rattle.sheets.specs.Grammar.{belongs_to, fits_of, most_of, heads_of};
+ghost use Rattle.sheets.specs.Tags.{number, kind_number};
+ghost use Rattle.sheets.specs.Grammar.{belongs_to, fits_of, most_of};
 ghost use Rattle.sheets.specs.Seen.{lower_in, room_in, allows_in, each_in, complete_in, Noted, Started};
 
 use crate::part::Part;
+use crate::seen::Seen;
+use crate::tag::Tag;
 use crate::width::Width;
-
-// What the check remembers of the fields before: the interface, the highest tag, and how many of each tag and for each event.
-#[derive(Clone, Copy)]
-pub(crate) struct Seen {
-    pub(crate) kind: u8,
-    pub(crate) inputs: u8,
-    pub(crate) outputs: u8,
-    pub(crate) last: u8,
-    pub(crate) counts: [u8; 8],
-    pub(crate) entries: [u8; 8],
-}
-
-// A sheet begins with its interface: kind 1 to 3, inputs 1 to 8, outputs up to 8.
-fn heads(part: Part<'_>) -> bool
-    ensures { result ≡ heads_of (raw part.entry) }
-{
-    let [kind, inputs, outputs] = part.content else {
-        return false;
-    };
-    part.tag == 1 && 1 <= *kind && *kind <= 3 && 1 <= *inputs && *inputs <= 8 && *outputs <= 8
-}
+use crate::words::Kind;
 
 // The tag is one of the kind's.
-fn belongs(kind: u8, tag: u8) -> bool
-    ensures { result ≡ belongs_to kind tag }
+fn belongs(kind: Kind, tag: Tag) -> bool
+    ensures { result ≡ belongs_to (kind_number kind) (number tag) }
 {
     match kind {
-        1 => 2 <= tag && tag <= 4,
-        2 => tag == 5,
-        3 => 6 <= tag && tag <= 7,
-        _ => false,
+        Kind::Basic => matches!(tag, Tag::Amounts | Tag::State | Tag::Transition),
+        Kind::Service => matches!(tag, Tag::Entry),
+        Kind::Composite => matches!(tag, Tag::Instance | Tag::Connection),
     }
 }
 
 // The content has a length of the table.
-fn fits(width: Width, outputs: u8, tag: u8, len: usize) -> bool
-    ensures { result ≡ fits_of width.bytes outputs tag len }
+fn fits(width: Width, outputs: u8, tag: Tag, len: usize) -> bool
+    ensures { result ≡ fits_of width.bytes outputs (number tag) len }
 {
     match tag {
-        2 => len <= 16 * width.bytes && len % width.bytes == 0,
-        3 => len <= 8 && len % 2 == 0,
-        4 => len == 3,
-        5 => len == 1 + width.bytes + outputs as usize,
-        6 => len == 1,
-        7 => len == 4,
-        _ => false,
+        Tag::Interface => false,
+        Tag::Amounts => len <= 16 * width.bytes && len % width.bytes == 0,
+        Tag::State => len <= 8 && len % 2 == 0,
+        Tag::Transition => len == 3,
+        Tag::Entry => len == 1 + width.bytes + outputs as usize,
+        Tag::Instance => len == 1,
+        Tag::Connection => len == 4,
     }
 }
 
-// How many fields of a tag there may be.
-fn most(tag: u8) -> u8
-    ensures { result ≡ most_of tag }
+// How many fields of a tag there may be; entries are counted for each event.
+fn most(tag: Tag) -> u8
+    ensures { result ≡ most_of (number tag) }
 {
     match tag {
-        2 => 1,
-        3 => 32,
-        4 => 64,
-        6 => 16,
-        7 => 64,
-        _ => 0,
+        Tag::Interface | Tag::Entry => 0,
+        Tag::Amounts => 1,
+        Tag::State => 32,
+        Tag::Transition => 64,
+        Tag::Instance => 16,
+        Tag::Connection => 64,
     }
 }
 
 impl Seen {
-    // What is remembered after the interface alone.
+    // What is remembered after the interface alone: a kind, 1 to 8 inputs and up to 8 outputs.
     pub(crate) fn start(head: Part<'_>) -> Option<Seen>
         ensures { Started (raw head.entry) result }
     {
-        if !heads(head) {
-            return None;
-        }
         let [kind, inputs, outputs] = head.content else {
             return None;
         };
+        let kind = Kind::try_from(*kind).ok()?;
+        if head.tag != 1 || *inputs < 1 || 8 < *inputs || 8 < *outputs {
+            return None;
+        }
         Some(Seen {
-            kind: *kind,
+            kind,
             inputs: *inputs,
             outputs: *outputs,
             last: 1,
@@ -90,91 +73,99 @@ impl Seen {
         })
     }
 
+    // A field of the tag has come.
+    fn has(&self, tag: Tag) -> bool
+        ensures { result ≡ nat_le 1 (slice_index self.now.counts (number tag)) }
+    {
+        1 <= self.counts[tag.number() as usize]
+    }
+
     // The required lower tags have come.
-    fn lower(&self, tag: u8) -> bool
-        ensures { result ≡ lower_in self.now tag }
+    fn lower(&self, tag: Tag) -> bool
+        ensures { result ≡ lower_in self.now (number tag) }
     {
         match tag {
-            3 => 1 <= self.counts[2],
-            4 => 1 <= self.counts[2] && 1 <= self.counts[3],
-            7 => 1 <= self.counts[6],
+            Tag::State => self.has(Tag::Amounts),
+            Tag::Transition => self.has(Tag::Amounts) && self.has(Tag::State),
+            Tag::Connection => self.has(Tag::Instance),
             _ => true,
         }
     }
 
-    // Not too many of its tag have come.
-    fn room(&self, part: Part<'_>) -> bool
-        requires few { self.now.inputs ≤ 8 }
+    // Not too many of its tag have come, nor of an entry's event, if that is an input.
+    fn room(&self, tag: Tag, part: Part<'_>) -> bool
+        requires { number tag ≡ part.tag }
         ensures { result ≡ room_in self.now (raw part.entry) }
     {
-        if part.tag == 5 {
-            let [event, ..] = part.content else {
-                return false;
-            };
-            if *event < self.inputs {
-                self.entries[*event as usize] < 16
-            } else {
-                true
-            }
-        } else if part.tag < 8 {
-            self.counts[part.tag as usize] < most(part.tag)
-        } else {
-            false
+        if tag != Tag::Entry {
+            return self.counts[tag.number() as usize] < most(tag);
+        }
+        match part.content {
+            [event, ..] if *event < self.inputs => self.entries[*event as usize] < 16,
+            [] => false,
+            _ => true,
         }
     }
 
     // The field may follow those before it.
-    pub(crate) fn allows(&self, width: Width, part: Part<'_>) -> bool
-        requires few { self.now.inputs ≤ 8 }
+    fn allows(&self, width: Width, tag: Tag, part: Part<'_>) -> bool
+        requires { number tag ≡ part.tag }
         ensures { result ≡ allows_in width.bytes self.now (raw part.entry) }
     {
-        belongs(self.kind, part.tag)
-            && fits(width, self.outputs, part.tag, part.content.len())
+        belongs(self.kind, tag)
+            && fits(width, self.outputs, tag, part.content.len())
             && self.last <= part.tag
-            && self.lower(part.tag)
-            && self.room(part)
-    }
-
-    // Each input has an entry.
-    fn each_event(&self) -> bool
-        requires few { self.now.inputs ≤ 8 }
-        ensures { result ≡ each_in self.now.inputs self.now.entries }
-    {
-        for e in 0..self.inputs {
-            if self.entries[e as usize] == 0 {
-                return false;
-            }
-        }
-        true
-    }
-
-    // Nothing more is needed.
-    pub(crate) fn complete(&self) -> bool
-        requires few { self.now.inputs ≤ 8 }
-        ensures { result ≡ complete_in self.now }
-    {
-        match self.kind {
-            1 => 1 <= self.counts[2] && 1 <= self.counts[3],
-            2 => self.each_event(),
-            _ => 1 <= self.counts[6],
-        }
+            && self.lower(tag)
+            && self.room(tag, part)
     }
 
     // One field more.
-    pub(crate) fn note(&mut self, part: Part<'_>)
-        requires few { self.old.inputs ≤ 8 }
+    fn note(&mut self, tag: Tag, part: Part<'_>)
+        requires tag { number tag ≡ part.tag }
         requires room { room_in self.old (raw part) ≡ true }
         ensures { Noted self.old (raw part.entry) self.new }
     {
         self.last = part.tag;
-        if part.tag == 5 {
-            if let [event, ..] = part.content {
-                if *event < self.inputs {
-                    self.entries[*event as usize] += 1;
-                }
-            }
-        } else if part.tag < 8 {
-            self.counts[part.tag as usize] += 1;
+        if tag != Tag::Entry {
+            self.counts[tag.number() as usize] += 1;
+            return;
+        }
+        match part.content {
+            [event, ..] if *event < self.inputs => self.entries[*event as usize] += 1,
+            _ => {}
+        }
+    }
+
+    // Whether the field may follow those before it; then it is remembered with them.
+    pub(crate) fn follow(&mut self, width: Width, part: Part<'_>) -> bool
+        ensures value { result ≡ allows_in width.bytes self.old (raw part.entry) }
+        ensures noted { IsTrue result → Noted self.old (raw part.entry) self.new }
+    {
+        let Ok(tag) = Tag::try_from(part.tag) else {
+            return false;
+        };
+        if !self.allows(width, tag, part) {
+            return false;
+        }
+        self.note(tag, part);
+        true
+    }
+
+    // Each input has an entry.
+    fn each_event(&self) -> bool
+        ensures { result ≡ each_in self.now.inputs self.now.entries }
+    {
+        self.entries[..self.inputs as usize].iter().all(|n| 1 <= *n)
+    }
+
+    // Nothing more is needed.
+    pub(crate) fn complete(&self) -> bool
+        ensures { result ≡ complete_in self.now }
+    {
+        match self.kind {
+            Kind::Basic => self.has(Tag::Amounts) && self.has(Tag::State),
+            Kind::Service => self.each_event(),
+            Kind::Composite => self.has(Tag::Instance),
         }
     }
 }

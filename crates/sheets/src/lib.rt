@@ -9,6 +9,8 @@ pub mod opened;
 pub mod part;
 pub mod reads;
 pub mod refusal;
+mod seen;
+mod tag;
 #[cfg(test)]
 mod tests;
 pub mod width;

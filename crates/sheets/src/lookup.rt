@@ -6,46 +6,36 @@ ghost use Rattle.sheets.specs.Frames.{fields};
 ghost use Rattle.sheets.specs.Places.{found_at};
 ghost use Rattle.sheets.specs.Shown.{said};
 ghost use Rattle.sheets.specs.Reading.{said_at};
-ghost use Rattle.sheets.specs.Sheets.{placed, tagged, tag_of, amounts_at, actions_at};
+ghost use Rattle.sheets.specs.Tags.{number};
+ghost use Rattle.sheets.specs.Sheets.{placed, tagged, amounts_at, actions_at};
 
-use crate::field::{Field, number, read};
+use crate::field::{Field, optional, read};
 use crate::fields::{Fields, Placed};
+use crate::tag::Tag;
 use crate::width::Width;
-use crate::words::{Action, Item};
-
-pub(crate) fn tag(item: Item) -> u8
-    ensures { result ≡ tag_of item }
-{
-    match item {
-        Item::State => 3,
-        Item::Transition => 4,
-        Item::Entry => 5,
-        Item::Instance => 6,
-        Item::Connection => 7,
-    }
-}
+use crate::words::Action;
 
 // The k-th field of a tag, with its place.
-pub(crate) fn find<'a>(bytes: &'a [u8], tag: u8, k: usize) -> Option<Placed<'a>>
-    ensures { found_at result ≡ slice_get (placed tag 0 (fields bytes.now)) k }
+pub(crate) fn find<'a>(bytes: &'a [u8], tag: Tag, k: usize) -> Option<Placed<'a>>
+    ensures { found_at result ≡ slice_get (placed (number tag) 0 (fields bytes.now)) k }
 {
     Fields::of(bytes)
-        .filter(|field| field.part.tag == tag)
+        .filter(|field| field.part.tag == tag.number())
         .nth(k)
 }
 
 // How many fields have the tag.
-pub(crate) fn count_parts(bytes: &[u8], tag: u8) -> usize
-    ensures { result ≡ length (tagged tag (fields bytes.now)) }
+pub(crate) fn count_parts(bytes: &[u8], tag: Tag) -> usize
+    ensures { result ≡ length (tagged (number tag) (fields bytes.now)) }
 {
     Fields::of(bytes)
-        .filter(|field| field.part.tag == tag)
+        .filter(|field| field.part.tag == tag.number())
         .count()
 }
 
 // What the k-th field of a tag says.
-pub(crate) fn field<'a>(bytes: &'a [u8], tag: u8, k: usize) -> Option<Field<'a>>
-    ensures { option_map said result ≡ said_at tag k bytes.now }
+pub(crate) fn field<'a>(bytes: &'a [u8], tag: Tag, k: usize) -> Option<Field<'a>>
+    ensures { option_map said result ≡ said_at (number tag) k bytes.now }
 {
     read(find(bytes, tag, k)?.part)
 }
@@ -68,7 +58,7 @@ pub(crate) fn action_at(content: &[u8], j: usize) -> Option<Action>
         return None;
     }
     Some(Action {
-        algorithm: number(content[2 * j]),
-        output: number(content[2 * j + 1]),
+        algorithm: optional(content[2 * j]),
+        output: optional(content[2 * j + 1]),
     })
 }

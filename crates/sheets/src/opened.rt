@@ -8,8 +8,8 @@ ghost use Rattle.sheets.specs.Split.{Framing};
 ghost use Rattle.sheets.specs.Refusals.{framing_of, check_of, both_of};
 
 use crate::fields::Fields;
-use crate::grammar::Seen;
 use crate::refusal::Refusal;
+use crate::seen::Seen;
 use crate::width::Width;
 
 // Check 1: the first field that runs past the end is refused.
@@ -36,10 +36,9 @@ fn grammar(bytes: &[u8], width: Width) -> Result<(), Refusal>
         .ok_or(Refusal::Grammar { at: 0 })?;
     let mut end = 6;
     for field in fields {
-        if !seen.allows(width, field.part) {
+        if !seen.follow(width, field.part) {
             return Err(Refusal::Grammar { at: field.at });
         }
-        seen.note(field.part);
         end = field.end;
     }
     if seen.complete() {

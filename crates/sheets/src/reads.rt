@@ -10,6 +10,7 @@ ghost use Rattle.sheets.specs.Sheets.{count_of, offsets_of, sheet_of};
 use crate::field::{Field, ServiceEntry};
 use crate::lookup::*;
 use crate::opened::Checked;
+use crate::tag::Tag;
 use crate::width::Width;
 use crate::words::{Action, Connection, Interface, Item, Transition};
 
@@ -35,28 +36,31 @@ impl<'a> Checked<'a> {
     pub fn interface(&self) -> Interface
         ensures { result ≡ (sheet_of self.now.width.bytes self.now.bytes.now).face }
     {
-        field(self.bytes, 1, 0).unwrap().as_interface().unwrap()
+        field(self.bytes, Tag::Interface, 0)
+            .unwrap()
+            .as_interface()
+            .unwrap()
     }
 
     // How many of an item there are.
     pub fn count(&self, item: Item) -> usize
         ensures { result ≡ count_of item (sheet_of self.now.width.bytes self.now.bytes.now) }
     {
-        count_parts(self.bytes, tag(item))
+        count_parts(self.bytes, item.into())
     }
 
     // The offset of the k-th of an item, in bytes.
     pub fn offset(&self, item: Item, k: usize) -> Option<usize>
         ensures { result ≡ slice_get (offsets_of item self.now.bytes.now) k }
     {
-        find(self.bytes, tag(item), k).map(|field| field.at)
+        find(self.bytes, item.into(), k).map(|field| field.at)
     }
 
     // All amounts, one after another.
     fn amount_bytes(&self) -> &'a [u8]
         ensures { result.now ≡ as_amounts (said_at 2 0 self.now.bytes.now) }
     {
-        field(self.bytes, 2, 0)
+        field(self.bytes, Tag::Amounts, 0)
             .map(Field::as_amounts)
             .unwrap_or(&[])
     }
@@ -89,7 +93,7 @@ impl<'a> Checked<'a> {
     fn action_bytes(&self, k: usize) -> &'a [u8]
         ensures { result.now ≡ as_actions (said_at 3 k self.now.bytes.now) }
     {
-        field(self.bytes, 3, k)
+        field(self.bytes, Tag::State, k)
             .map(Field::as_actions)
             .unwrap_or(&[])
     }
@@ -111,26 +115,26 @@ impl<'a> Checked<'a> {
     pub fn transition(&self, k: usize) -> Option<Transition>
         ensures { result ≡ slice_get (sheet_of self.now.width.bytes self.now.bytes.now).transitions k }
     {
-        field(self.bytes, 4, k)?.as_transition()
+        field(self.bytes, Tag::Transition, k)?.as_transition()
     }
 
     // Entry k of a service block.
     pub fn entry(&self, k: usize) -> Option<ServiceEntry<'a>>
         ensures { option_map shown_entry result ≡ slice_get (sheet_of self.now.width.bytes self.now.bytes.now).entries k }
     {
-        field(self.bytes, 5, k)?.as_entry(self.width)
+        field(self.bytes, Tag::Entry, k)?.as_entry(self.width)
     }
 
     // The number of the block of instance k.
     pub fn instance(&self, k: usize) -> Option<u8>
         ensures { result ≡ slice_get (sheet_of self.now.width.bytes self.now.bytes.now).instances k }
     {
-        field(self.bytes, 6, k)?.as_instance()
+        field(self.bytes, Tag::Instance, k)?.as_instance()
     }
 
     pub fn connection(&self, k: usize) -> Option<Connection>
         ensures { result ≡ slice_get (sheet_of self.now.width.bytes self.now.bytes.now).connections k }
     {
-        field(self.bytes, 7, k)?.as_connection()
+        field(self.bytes, Tag::Connection, k)?.as_connection()
     }
 }

@@ -1,5 +1,5 @@
 use Rattle.std.proofs.Common.{◌≡◌, Some, None, Err, MatchOption, sym, ap, subst, ◌∙◌, rules}
-use Rattle.std.proofs.lemmas.Bool.{and_parts, cond-true, cond-false}
+use Rattle.std.proofs.lemmas.Bool.{cond-true, cond-false}
 use Rattle.sheets.specs.Parts.{raw}
 use Rattle.sheets.specs.Places.{to_come}
 use Rattle.sheets.specs.Seen.{Started}
@@ -28,20 +28,14 @@ loop-field-init c =
     let began = start w bs c.of-fields.result c.next.new.self c.next.result c.and_then.result c.of-fields.ensures c.next.ensures.steps made c.in_ok-seen.seen some in
     subst (λ t. Sofar w bs (to_come t) 6 c.in_ok-seen.seen) (sym c.into_iter-field-iterator.ensures.into_iter_gives) began
 
-pub allows-requires : goal.allows-requires
-allows-requires c = record { few = c.loop-field.invariant.sums.few }
-
-pub returns-then-not-allows : goal.returns-then-not-allows
+pub returns-then-not-follow : goal.returns-then-not-follow
 unfolding check_of
-returns-then-not-allows c =
-    sym (ap refused_at (stopped _ _ _ _ _ c.loop-field.invariant c.in-Some.field _ c.in-Some.ensures.steps (sym c.if-not-allows.ensures)))
-
-pub note-requires : goal.note-requires
-note-requires c = record { few = c.loop-field.invariant.sums.few; room = (and_parts _ _ (sym c.if-not-allows.ensures)).1 }
+returns-then-not-follow c =
+    sym (ap refused_at (stopped _ _ _ _ _ c.loop-field.invariant c.in-Some.field _ c.in-Some.ensures.steps (sym c.if-not-follow.ensures.value)))
 
 pub loop-field-preserved : goal.loop-field-preserved
 loop-field-preserved c =
-    again _ _ _ _ _ c.loop-field.invariant c.in-Some.field _ c.in-Some.ensures.steps c.note.new.self (sym c.if-not-allows.ensures) c.note.ensures
+    again _ _ _ _ _ c.loop-field.invariant c.in-Some.field _ c.in-Some.ensures.steps c.follow.new.self (sym c.if-not-follow.ensures.value) (search rules)
 
 pub returns-then-complete : goal.returns-then-complete
 unfolding check_of

@@ -11,4 +11,4 @@ pub returns : goal.returns
 returns c =
     let s = c.args.self.now in
     let at : c.map.result ≡ option_map (λ p. p.0) (found_at c.find.result) = search rules in
-    at ∙ offsets_read c.args.item s.bytes.now c.args.k _ (c.find.ensures ∙ ap (λ t. slice_get (placed t 0 (fields s.bytes.now)) c.args.k) c.tag.ensures)
+    at ∙ offsets_read c.args.item s.bytes.now c.args.k _ (c.find.ensures ∙ ap (λ t. slice_get (placed t 0 (fields s.bytes.now)) c.args.k) c.into.ensures)
