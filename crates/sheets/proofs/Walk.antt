@@ -1,5 +1,5 @@
 -- The fields of a sheet, one after another. Assumes nothing.
-use Rattle.std.proofs.Common.{◌≡◌, ℕ, zero, suc, ◌+◌, ◌*◌, ◌≤◌, Bool, true, false, cond, List, [], ◌∷◌, map, length, drop, Some, None, Option, sym, refl, ap, ◌∙◌, zero-add, arith}
+use Rattle.std.proofs.Common.{◌≡◌, ℕ, zero, suc, ◌+◌, ◌*◌, ◌≤◌, Bool, true, false, cond, List, [], ◌∷◌, map, length, get_or, take, drop, Some, None, Option, sym, refl, ap, ◌∙◌, zero-add, arith}
 use Rattle.std.specs.Option.{option_map}
 use Rattle.std.specs.List.{last_or}
 use Rattle.std.specs.Iterator.{Drains, YieldsFirstBy}
@@ -8,6 +8,7 @@ use Rattle.std.proofs.lemmas.List.{length-take-le, length-drop}
 use Rattle.std.proofs.lemmas.Bool.{leb-true}
 use Rattle.sheets.specs.Frames.{Raw, size, field_at, with, fields_in, fields, laid, span, Turn}
 use Rattle.sheets.specs.Parts.{raw}
+use Rattle.sheets.proofs.Fronts.{front, after}
 use Rattle.sheets.specs.Places.{place, to_come}
 use Rattle.sheets.specs.declared.fields.Fields.{Fields}
 use Rattle.sheets.specs.declared.fields.Placed.{Placed}
@@ -85,6 +86,14 @@ turn rest f after e d =
       long = omega (arith, ap length off, length-drop (size f) rest);
       off = off;
     }
+
+-- the first field by places: its content takes n bytes after the first three
+pub first_turn : (bs : List ℕ) (n : ℕ) (content rest : List ℕ) → 3 ≤ length bs → n ≡ get_or bs 1 0 * 256 + get_or bs 2 0 → n ≤ length (drop 3 bs) → content ≡ take n (drop 3 bs) → rest ≡ drop n (drop 3 bs) → Turn bs (record { tag = get_or bs 0 0; content = content }) rest
+first_turn bs n content rest long is fits c r =
+    let low : get_or bs 1 0 * 256 + get_or bs 2 0 ≤ length (drop 3 bs) = omega (arith, is) in
+    turn bs _ rest
+    (ap (λ l. Some (record { tag = get_or bs 0 0; content = l })) (c ∙ ap (λ m. take m (drop 3 bs)) is) ∙ sym (front bs long low))
+    (ap Some (r ∙ ap (λ m. drop m (drop 3 bs)) is) ∙ sym (after bs long low))
 
 -- x is the first of the fields `more`, the first of which stands at `at`, and rest is what follows it, with its offsets
 pub record Next (at : ℕ) (more : List Raw) (x : Placed) (rest : List (ℕ × Raw)) : Type 0 where

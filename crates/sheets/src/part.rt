@@ -18,15 +18,7 @@ pub fn first<'a>(bytes: &'a [u8]) -> Option<(Part<'a>, &'a [u8])>
     let [tag, high, low, rest @ ..] = bytes else {
         return None;
     };
-    let len = *high as usize * 256 + *low as usize;
-    if rest.len() < len {
-        return None;
-    }
-    Some((
-        Part {
-            tag: *tag,
-            content: &rest[0..len],
-        },
-        &rest[len..],
-    ))
+    let len = u16::from_be_bytes([*high, *low]);
+    let (content, after) = rest.split_at_checked(usize::from(len))?;
+    Some((Part { tag: *tag, content }, after))
 }
