@@ -1,9 +1,13 @@
 -- Contents cut into amounts and actions, piece by piece. Assumes nothing.
-use Rattle.std.proofs.Common.{◌≡◌, ℕ, zero, suc, ◌+◌, ◌*◌, ◌/◌, ◌<◌, ◌≤◌, List, [], ◌∷◌, length, get_or, take, drop, Some, None, refl, ap, ◌∙◌, mul-le-mul_right, suc-mul, zero-mul, div-mul-le_self, arith}
+use Rattle.std.proofs.Common.{◌≡◌, ℕ, zero, suc, ◌+◌, ◌*◌, ◌/◌, ◌<◌, ◌≤◌, List, [], ◌∷◌, length, get_or, take, drop, Some, None, Option, MatchOption, sym, refl, ap, ◌∙◌, mul-le-mul_right, suc-mul, zero-mul, div-mul-le_self, arith}
+use Rattle.std.specs.Borrow.{Bor}
+use Rattle.std.specs.Option.{option_map}
 use Rattle.std.specs.List.{slice_get}
+use Rattle.std.proofs.Math.Nat.{le-div_iff_mul-le}
 use Rattle.std.proofs.lemmas.List.{drop-drop}
 use Rattle.std.proofs.lemmas.Option.{slice_get_past}
 use Rattle.sheets.specs.Fields.{number_of}
+use Rattle.sheets.specs.declared.words.Action.{Action}
 use Rattle.sheets.specs.Sheets.{cut, amounts_at, actions_at}
 
 pub length_cut : (w n : ℕ) (bs : List ℕ) → length (cut w n bs) ≡ n
@@ -22,8 +26,17 @@ piece_within n w k h =
     let more : suc k ≤ n / w = omega arith in
     omega (arith, div-mul-le_self n w, mul-le-mul_right w more, suc-mul k w)
 
+-- and what lies within it is one of them
+piece_below : (n w k : ℕ) → 1 ≤ w → k * w + w ≤ n → k < n / w
+piece_below n w k some h = (le-div_iff_mul-le {k = w} {x = suc k} {y = n} (omega arith)).1 (omega (arith, suc-mul k w))
+
 pub no_piece : (w k : ℕ) (bs : List ℕ) → length bs / w ≤ k → slice_get (amounts_at w bs) k ≡ None
 no_piece w k bs h = slice_get_past (amounts_at w bs) k (omega (arith, length_cut w (length bs / w) bs))
+
+-- what `chunks_exact` and then `nth` give
+pub nth_piece : (w k : ℕ) (bs : List ℕ) (o : Option (Bor (List ℕ))) → MatchOption o (length bs / w ≤ k) (λ x. (k * w + w ≤ length bs) × (x.now ≡ take w (drop (k * w) bs))) → 1 ≤ w → option_map (λ a. a.now) o ≡ slice_get (amounts_at w bs) k
+nth_piece w k bs None h some = sym (no_piece w k bs h)
+nth_piece w k bs (Some x) h some = ap Some h.1 ∙ sym (nth_cut w (length bs / w) bs k (piece_below (length bs) w k some h.0))
 
 pub length_actions : (bs : List ℕ) → length (actions_at bs) ≡ length bs / 2
 length_actions [] = refl
@@ -38,3 +51,17 @@ nth_actions (a ∷ o ∷ rest) (suc j) h =
     let two : 2 * suc j ≡ suc (suc (2 * j)) = omega arith in
     let three : suc (suc (2 * j)) + 1 ≡ suc (suc (2 * j + 1)) = omega arith in
     nth_actions rest j (omega arith) ∙ rw (two, three) refl
+
+-- the action that two bytes stand for
+abbrev pub action_of : Bor (List ℕ) → Action
+action_of a = record { algorithm = number_of (get_or a.now 0 0); output = number_of (get_or a.now 1 0) }
+
+-- what `chunks_exact` and then `nth` give, by two bytes each
+abbrev pub Paired : ℕ → List ℕ → Option (Bor (List ℕ)) → Type 0
+Paired j bs o = MatchOption o (length bs / 2 ≤ j) (λ x. (j * 2 + 2 ≤ length bs) × (get_or x.now 0 0 ≡ get_or bs (j * 2) 0) × (get_or x.now 1 0 ≡ get_or bs (j * 2 + 1) 0))
+
+pub nth_action : (j : ℕ) (bs : List ℕ) (o : Option (Bor (List ℕ))) → Paired j bs o → option_map action_of o ≡ slice_get (actions_at bs) j
+nth_action j bs None h = sym (slice_get_past (actions_at bs) j (omega (arith, length_actions bs)))
+nth_action j bs (Some x) h =
+    let twice : j * 2 ≡ 2 * j = omega arith in
+    rw (h.1, h.2, twice) (sym (nth_actions bs j (piece_below (length bs) 2 j (omega arith) h.0)))

@@ -44,21 +44,15 @@ pub(crate) fn field<'a>(bytes: &'a [u8], tag: Tag, k: usize) -> Option<Field<'a>
 pub(crate) fn piece<'a>(content: &'a [u8], width: Width, k: usize) -> Option<&'a [u8]>
     ensures { option_map (λ a. a.now) result ≡ slice_get (amounts_at width.bytes content.now) k }
 {
-    if k >= content.len() / width.bytes {
-        return None;
-    }
-    let at = k * width.bytes;
-    Some(&content[at..at + width.bytes])
+    content.chunks_exact(width.bytes).nth(k)
 }
 
 pub(crate) fn action_at(content: &[u8], j: usize) -> Option<Action>
     ensures { result ≡ slice_get (actions_at content.now) j }
 {
-    if j >= content.len() / 2 {
-        return None;
-    }
+    let action = content.chunks_exact(2).nth(j)?;
     Some(Action {
-        algorithm: optional(content[2 * j]),
-        output: optional(content[2 * j + 1]),
+        algorithm: optional(action[0]),
+        output: optional(action[1]),
     })
 }

@@ -1,5 +1,5 @@
 // The example sheet, a sheet at each limit, and one just past each.
-use crate::opened::{Opened, framing};
+use crate::opened::Checked;
 use crate::refusal::Refusal;
 use crate::width::Width;
 use std::alloc::{AllocError, Global};
@@ -12,22 +12,9 @@ const SERVICE: [u8; 6] = [1, 0, 3, 2, 1, 1];
 
 const COMPOSITE: [u8; 6] = [1, 0, 3, 3, 1, 1];
 
-fn check_both(bytes: &[u8]) -> Result<(), Refusal> {
-    framing(bytes)?;
-    let opened = Opened::new(bytes);
-    if let Some(width) = Width::new(4) {
-        opened.check(width)?;
-    }
-    Ok(())
-}
-
-// The refusal's place, in bytes; none where the sheet is accepted at a width of four bytes.
-fn refused_at(bytes: &[u8]) -> Option<usize> {
-    match check_both(bytes) {
-        Ok(()) => None,
-        Err(Refusal::Cut { at }) => Some(at),
-        Err(Refusal::Grammar { at }) => Some(at),
-    }
+// What the checks say at a width of four bytes; of a checked sheet, its length in bytes.
+fn checked(bytes: &[u8]) -> Result<usize, Refusal> {
+    Checked::read(bytes, Width { bytes: 4 }).map(|sheet| sheet.len())
 }
 
 // A sheet's beginning, then the same field so many times.
@@ -47,7 +34,7 @@ fn accepts(
     most: usize,
 ) -> Result<(), Fail> {
     let sheet = repeated(heap, head, field, most)?;
-    assert_eq!(rt; refused_at(sheet.as_slice()), None);
+    assert_eq!(rt; checked(sheet.as_slice()), Ok(sheet.len()));
     Ok(())
 }
 
@@ -60,7 +47,10 @@ fn refuses(
 ) -> Result<(), Fail> {
     let sheet = repeated(heap, head, field, most)?;
     let over = repeated(heap, sheet.as_slice(), field, 1)?;
-    assert_eq!(rt; refused_at(over.as_slice()), Some(sheet.len()));
+    assert_eq!(rt;
+        checked(over.as_slice()),
+        Err(Refusal::Grammar { at: sheet.len() })
+    );
     Ok(())
 }
 
@@ -70,10 +60,10 @@ fn example(rt: HostRuntime) {
         1, 0, 3, 1, 1, 1, 2, 0, 4, 0, 0, 0, 7, 3, 0, 0, 3, 0, 2, 0, 0, 4, 0, 3, 0, 1, 0, 4, 0, 3,
         1, 0, 255,
     ];
-    assert_eq!(rt; refused_at(&sheet), None);
-    assert_eq!(rt; refused_at(&sheet[0..32]), Some(27));
-    assert_eq!(rt; refused_at(&BASIC), Some(13));
-    assert_eq!(rt; refused_at(&[]), Some(0));
+    assert_eq!(rt; checked(&sheet), Ok(33));
+    assert_eq!(rt; checked(&sheet[0..32]), Err(Refusal::Cut { at: 27 }));
+    assert_eq!(rt; checked(&BASIC), Err(Refusal::Grammar { at: 13 }));
+    assert_eq!(rt; checked(&[]), Err(Refusal::Grammar { at: 0 }));
 }
 
 #[test]
@@ -123,6 +113,6 @@ fn amounts(rt: HostRuntime) -> Result<(), Fail> {
     accepts(&rt, heap, sixteen.as_slice(), &[3, 0, 0], 1)?;
     let more = repeated(heap, &[1, 0, 3, 1, 1, 1, 2, 0, 68], &[0, 0, 0, 7], 17)?;
     let sheet = repeated(heap, more.as_slice(), &[3, 0, 0], 1)?;
-    assert_eq!(rt; refused_at(sheet.as_slice()), Some(6));
+    assert_eq!(rt; checked(sheet.as_slice()), Err(Refusal::Grammar { at: 6 }));
     Ok(())
 }

@@ -1,12 +1,16 @@
-use Rattle.std.proofs.Common.{sym, arith}
-use Rattle.std.proofs.lemmas.Option.{slice_get_past}
-use Rattle.sheets.specs.Sheets.{actions_at}
-use Rattle.sheets.proofs.Pieces.{nth_actions, length_actions}
+use Rattle.std.proofs.Common.{rules}
+use Rattle.std.proofs.iter.runs.Made.{chains}
+use Rattle.sheets.proofs.Pieces.{Paired, nth_action}
 use Rattle.sheets.proofs.lookup.action_at.Goals as goal
 
-pub returns-then-j-content : goal.returns-then-j-content
-returns-then-j-content c =
-    sym (slice_get_past (actions_at c.args.content.now) c.args.j (omega (arith, length_actions c.args.content.now, c.if-j-content.true)))
+pub returns-in_err-action : goal.returns-in_err-action
+returns-in_err-action c =
+    let found : Paired c.args.j c.args.content.now c.nth.result = search (rules, chains) in
+    let is = nth_action c.args.j c.args.content.now c.nth.result found in
+    search rules
 
 pub returns : goal.returns
-returns c = let here = nth_actions c.args.content.now c.args.j c.if-j-content.false in cc
+returns c =
+    let found : Paired c.args.j c.args.content.now c.nth.result = search (rules, chains) in
+    let is = nth_action c.args.j c.args.content.now c.nth.result found in
+    search rules

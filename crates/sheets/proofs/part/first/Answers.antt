@@ -1,8 +1,6 @@
-use Rattle.std.proofs.Common.{◌≡◌, ◌+◌, ◌*◌, get_or, None, sym, subst, arith, rules}
+use Rattle.std.proofs.Common.{◌≡◌, ◌+◌, ◌*◌, get_or, None, sym, rules}
 use Rattle.std.proofs.lemmas.List.{take_rest}
-use Rattle.std.specs.Option.{MatchOption}
-use Rattle.sheets.specs.Frames.{field_at, fields, Turn}
-use Rattle.sheets.specs.Parts.{raw}
+use Rattle.sheets.specs.Frames.{field_at}
 use Rattle.sheets.proofs.Walk.{first_turn, fields_end}
 use Rattle.sheets.proofs.part.first.Goals as goal
 
