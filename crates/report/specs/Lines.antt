@@ -1,15 +1,15 @@
 -- The lines that a file of sheets is answered with, and how a line is spelt. Assumes nothing.
 use Rattle.std.specs.Prelude.{ℕ, ◌+◌, cond, List, [], ◌∷◌, ◌++◌, length, Ok, Err, codes, decimal, Result, ◌==◌}
-use Rattle.std.specs.Result.{result_map_both, result_and}
+use Rattle.std.specs.Result.{result_map_both}
 use Rattle.sheets.specs.Frames.{Raw, size, fields}
-use Rattle.sheets.specs.Refusals.{number, level, place, framing_of, check_of}
+use Rattle.sheets.specs.Refusals.{number, level, place, both_of}
 use Rattle.sheets.specs.declared.refusal.Refusal.{Refusal}
 use Rattle.report.specs.declared.line.Line.{Line}
 use Rattle.report.specs.declared.line.Line.TheVariants.{Checked, Refused, Fault}
 
 -- check 1, then check 2 for the width; the sheet's length in bytes where both accept it
 abbrev pub check_both : ℕ → List ℕ → Result ℕ Refusal
-check_both w bs = result_map_both (λ _. length bs) (λ e. e) (result_and (framing_of bs) (check_of w bs))
+check_both w bs = result_map_both (λ _. length bs) (λ e. e) (both_of w bs)
 
 abbrev pub line_of : Result ℕ Refusal → Line
 line_of (Ok n) = Checked n

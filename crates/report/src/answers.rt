@@ -1,11 +1,10 @@
 // What the report answers for each sheet of a file.
 ghost use Rattle.std.specs.Prelude.{◌≡◌, length, IfOk};
-ghost use Rattle.report.specs.Lines.{check_both, answer_of, lines_of};
+ghost use Rattle.report.specs.Lines.{answer_of, lines_of};
 
 use crate::line::Line;
-use sheets::opened::{Checked, Opened, framing};
-use sheets::part::first;
-use sheets::refusal::Refusal;
+use sheets::fields::Fields;
+use sheets::opened::Checked;
 use sheets::width::Width;
 use std::alloc::{AllocError, Global};
 
@@ -19,22 +18,14 @@ fn length_of(sheet: &Checked<'_>) -> usize
     sheet.len()
 }
 
-// Checks 1 and 2, and then what is said of the sheet.
-fn check_sheet(bytes: &[u8], width: Width) -> Result<usize, Refusal>
-    ensures { result ≡ check_both width.bytes bytes.now }
-{
-    framing(bytes)?;
-    let opened = Opened::new(bytes);
-    opened.check(width)?;
-    let checked = opened.into_checked(width);
-    Ok(length_of(&checked))
-}
-
+// What is said of a sheet: checks 1 and 2 come first.
 fn answer(bytes: &[u8], width: Width) -> Line
     ensures { result ≡ answer_of width.bytes bytes.now }
 {
-    match check_sheet(bytes, width) {
-        Ok(len) => Line::Checked { len },
+    match Checked::read(bytes, width) {
+        Ok(sheet) => Line::Checked {
+            len: length_of(&sheet),
+        },
         Err(refusal) => Line::Refused(refusal),
     }
 }
@@ -44,19 +35,17 @@ pub fn answers(heap: Global, bytes: &[u8], width: Width) -> Result<Vec<Line>, Al
     ensures { IfOk result (λ v. v.items ≡ lines_of width.bytes bytes.now) }
 {
     let mut lines = Vec::new(heap);
-    let mut rest = bytes;
-    let mut at: usize = 0;
-    while let Some((part, after)) = first(rest) {
-        if part.tag != SHEET {
-            lines.push(Line::Fault { at })?;
+    let mut end = 0;
+    for field in Fields::of(bytes) {
+        if field.part.tag != SHEET {
+            lines.push(Line::Fault { at: field.at })?;
             return Ok(lines);
         }
-        lines.push(answer(part.content, width))?;
-        at += 3 + part.content.len();
-        rest = after;
+        lines.push(answer(field.part.content, width))?;
+        end = field.end;
     }
-    if at != bytes.len() {
-        lines.push(Line::Fault { at })?;
+    if end != bytes.len() {
+        lines.push(Line::Fault { at: end })?;
     }
     Ok(lines)
 }

@@ -1,11 +1,9 @@
 // A line of the report, and how it is spelt.
-ghost use Rattle.std.specs.Prelude.{◌≡◌, IfOk, string_bytes};
+ghost use Rattle.std.specs.Prelude.{Some};
 ghost use Rattle.report.specs.Lines.{spelt};
-ghost use Rattle.report.specs.declared.line.Line.TheVariants.{Refused};
-ghost use Rattle.sheets.specs.Refusals.{number as number_of, level as level_of, place as place_of};
 
 use sheets::refusal::Refusal;
-use std::alloc::{AllocError, Global};
+use std::fmt;
 
 #[derive(Clone, Copy)]
 pub enum Line {
@@ -17,49 +15,19 @@ pub enum Line {
     Fault { at: usize },
 }
 
-fn number(refusal: Refusal) -> usize
-    ensures { result ≡ number_of refusal }
-{
-    match refusal {
-        Refusal::Cut { .. } => 1,
-        Refusal::Grammar { .. } => 2,
-    }
-}
+impl fmt::Display for Line {
+    ghost output = { λ line. Some (spelt line) };
 
-fn level(refusal: Refusal) -> usize
-    ensures { result ≡ level_of refusal }
-{
-    match refusal {
-        Refusal::Cut { .. } => 1,
-        Refusal::Grammar { .. } => 1,
-    }
-}
-
-fn place(refusal: Refusal) -> usize
-    ensures { result ≡ place_of refusal }
-{
-    match refusal {
-        Refusal::Cut { at } => at,
-        Refusal::Grammar { at } => at,
-    }
-}
-
-fn refused(heap: Global, refusal: Refusal) -> Result<String, AllocError>
-    ensures { IfOk result (λ s. string_bytes s ≡ spelt (Refused refusal)) }
-{
-    let n = number(refusal);
-    let l = level(refusal);
-    let p = place(refusal);
-    format!(in heap; "9 {n} {l} {p}")
-}
-
-// The line as it is printed.
-pub fn spell(heap: Global, line: Line) -> Result<String, AllocError>
-    ensures { IfOk result (λ s. string_bytes s ≡ spelt line) }
-{
-    match line {
-        Line::Checked { len } => format!(in heap; "checked {len}"),
-        Line::Refused(refusal) => refused(heap, refusal),
-        Line::Fault { at } => format!(in heap; "file {at}"),
+    fn fmt<W: fmt::Write>(&self, f: &mut fmt::Formatter<W>) -> fmt::Result {
+        match self {
+            Line::Checked { len } => write!(f, "checked {len}"),
+            Line::Refused(refusal) => {
+                let n = refusal.number();
+                let l = refusal.level();
+                let p = refusal.place();
+                write!(f, "9 {n} {l} {p}")
+            }
+            Line::Fault { at } => write!(f, "file {at}"),
+        }
     }
 }

@@ -5,7 +5,6 @@ mod answers;
 mod line;
 
 use answers::answers;
-use line::spell;
 use sheets::width::Width;
 use std::io;
 use std::io::Read;
@@ -19,7 +18,7 @@ fn main(rt: HostRuntime) -> io::Result<()> {
     };
     let lines = answers(heap, file.as_slice(), width)?;
     for line in lines.iter() {
-        rt.println(spell(heap, *line)?)?;
+        rt.println(line)?;
     }
     Ok(())
 }

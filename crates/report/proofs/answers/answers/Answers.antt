@@ -1,11 +1,19 @@
-use Rattle.std.proofs.Common.{arith}
-use Rattle.sheets.specs.Parts.{raw}
-use Rattle.report.proofs.Files.{lines_more}
+use Rattle.std.proofs.Common.{◌∙◌, ap, vec_items}
+use Rattle.report.proofs.Files.{sheet_more, other_tag, whole, cut}
+use Rattle.report.proofs.answers.answers.Goals.{then-end-bytes+in_ok-push-3, else-end-bytes}
 use Rattle.report.proofs.answers.answers.Goals as goal
 
-pub loop-part-preserved : goal.loop-part-preserved
-loop-part-preserved c =
-    let turn = c.in-Some.ensures.turn in (
-      omega (arith, c.loop-part.invariant.0, turn.long),
-      lines_more _ _ c.loop-part.at _ _ _ _ _ (raw c.in-Some.part) _ turn c.if-part-ne-SHEET.false c.answer.ensures c.in_ok-push-2.ensures.items c.loop-part.invariant.1,
-    )
+pub returns-then-field-ne-SHEET : goal.returns-then-field-ne-SHEET
+returns-then-field-ne-SHEET c =
+    c.in_ok-push.ensures.items
+    ∙ other_tag _ _ _ _ _ c.loop-field.invariant c.in-Some.field _ c.in-Some.ensures.steps c.if-field-ne-SHEET.true
+
+pub loop-field-preserved : goal.loop-field-preserved
+loop-field-preserved c =
+    sheet_more _ _ _ _ _ c.loop-field.invariant c.in-Some.field _ c.in-Some.ensures.steps _ _ c.if-field-ne-SHEET.false c.answer.ensures c.in_ok-push-2.ensures.items
+
+pub returns : goal.returns
+returns c = elim c.if-end-bytes.branch [
+  | then-end-bytes+in_ok-push-3 w ↦ ap vec_items w.lines-is ∙ w.in_ok-push-3.ensures.items ∙ cut _ _ _ _ _ c.loop-field.invariant c.in-None.ensures.steps.0 w.if-end-bytes.true
+  | else-end-bytes w ↦ ap vec_items w.lines-is ∙ whole _ _ _ _ _ c.loop-field.invariant c.in-None.ensures.steps.0 w.if-end-bytes.false
+]

@@ -1,10 +1,7 @@
-use Rattle.std.proofs.Common.{◌≡◌, ◌+◌, ◌++◌, length, vec_items}
-use Rattle.sheets.specs.Frames.{fields}
-use Rattle.report.specs.Lines.{lines_from, lines_of}
+use Rattle.std.proofs.Common.{vec_items}
+use Rattle.sheets.specs.Places.{to_come}
+use Rattle.report.proofs.Files.{Told}
 use Rattle.report.proofs.answers.answers.Given as goal
 
-abbrev pub invariant-loop-part : goal.invariant-loop-part
-invariant-loop-part l = (l.at + length l.rest ≡ length l.bytes) × (vec_items l.lines ++ lines_from l.width.bytes (length l.bytes) l.at (fields l.rest) ≡ lines_of l.width.bytes l.bytes)
-
-abbrev pub decreases-loop-part : goal.decreases-loop-part
-decreases-loop-part l = length l.rest
+abbrev pub invariant-loop-field : goal.invariant-loop-field
+invariant-loop-field l = Told l.width.bytes l.bytes (to_come l.field-iterator) l.end (vec_items l.lines)
