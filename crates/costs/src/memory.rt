@@ -1,8 +1,10 @@
 // Memory: an amount of bytes in use, an unsigned number of 2 bytes.
+ghost use Rattle.std.specs.Prelude.{Some, decimal};
 ghost use Rattle.costs.specs.Measures.{memory_ops, memory_meant};
 ghost use Rattle.costs.specs.MeasureLaws.{memory_lawful, two_bytes};
 
 use crate::measure::Measure;
+use std::fmt;
 
 #[derive(Clone, Copy)]
 pub struct Memory {
@@ -12,6 +14,15 @@ pub struct Memory {
 impl Memory {
     // bytes
     pub const WIDTH: usize = 2;
+}
+
+// As its number.
+impl fmt::Display for Memory {
+    ghost output = { λ a. Some (decimal a.value) };
+
+    fn fmt<W: fmt::Write>(&self, f: &mut fmt::Formatter<W>) -> fmt::Result {
+        write!(f, "{}", self.value)
+    }
 }
 
 impl Measure for Memory {
