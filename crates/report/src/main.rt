@@ -13,10 +13,7 @@ fn main(rt: HostRuntime) -> io::Result<()> {
     let heap = rt.alloc();
     let mut file = Vec::new(heap);
     rt.stdin().read_to_end(&mut file)?;
-    let Some(width) = Width::new(4) else {
-        return Ok(());
-    };
-    let lines = answers(heap, file.as_slice(), width)?;
+    let lines = answers(heap, file.as_slice(), Width { bytes: 4 })?;
     for line in lines.iter() {
         rt.println(line)?;
     }

@@ -23,7 +23,11 @@ pub record Sofar (w : ℕ) (bs : List ℕ) (left : List (ℕ × Raw)) (at : ℕ)
   pub sums : Sums head fs s
   pub goes : walk w head fs at more ≡ fault w (fields bs)
 
-started : (w : ℕ) (bs : List ℕ) (x : Placed) (left : List (ℕ × Raw)) (o : Option Seen) → Next 0 (fields bs) x left → Started (raw x.part) o → MatchOption o (fault w (fields bs) ≡ Some 0) (Sofar w bs left 6)
+-- the check has begun, or the fields are refused at the first
+abbrev Began : ℕ → List ℕ → List (ℕ × Raw) → Option Seen → Type 0
+Began w bs left o = MatchOption o (fault w (fields bs) ≡ Some 0) (Sofar w bs left 6)
+
+started : (w : ℕ) (bs : List ℕ) (x : Placed) (left : List (ℕ × Raw)) (o : Option Seen) → Next 0 (fields bs) x left → Started (raw x.part) o → Began w bs left o
 started w bs x left None t h = ap (fault w) t.is ∙ cond-false _ _ _ h
 started w bs x left (Some s) t h =
     let six : size (raw x.part) ≡ 6 = omega (arith, h.7) in
@@ -48,19 +52,19 @@ started w bs x left (Some s) t h =
 
 -- what `next` gives of all fields, and what the check makes of it
 module _ (w : ℕ) (bs : List ℕ) (s t : Fields) (n : Option Placed) (o : Option Seen) (all : to_come s ≡ laid 0 (fields bs)) (gives : YieldsFirstBy place to_come s n t) (made : MatchOption n (o ≡ None) (λ x. Started (raw x.part) o)) where
-  began : MatchOption o (fault w (fields bs) ≡ Some 0) (Sofar w bs (to_come t) 6)
+  began : Began w bs (to_come t) o
   began = of n gives made where
-    of : (n : Option Placed) → YieldsFirstBy place to_come s n t → MatchOption n (o ≡ None) (λ x. Started (raw x.part) o) → MatchOption o (fault w (fields bs) ≡ Some 0) (Sofar w bs (to_come t) 6)
+    of : (n : Option Placed) → YieldsFirstBy place to_come s n t → MatchOption n (o ≡ None) (λ x. Started (raw x.part) o) → Began w bs (to_come t) o
     of None gives made =
-        subst (λ o. MatchOption o (fault w (fields bs) ≡ Some 0) (Sofar w bs (to_come t) 6)) (sym made)
+        subst (Began w bs (to_come t)) (sym made)
         (ap (fault w) (none_left 0 (fields bs) (sym all ∙ gives.0)))
     of (Some x) gives made = started w bs x (to_come t) o (next 0 (fields bs) x (to_come t) (sym all ∙ gives)) made
 
   pub no_start : o ≡ None → fault w (fields bs) ≡ Some 0
-  no_start e = subst (λ o. MatchOption o (fault w (fields bs) ≡ Some 0) (Sofar w bs (to_come t) 6)) e began
+  no_start e = subst (Began w bs (to_come t)) e began
 
   pub start : (s : Seen) → o ≡ Some s → Sofar w bs (to_come t) 6 s
-  start s e = subst (λ o. MatchOption o (fault w (fields bs) ≡ Some 0) (Sofar w bs (to_come t) 6)) e began
+  start s e = subst (Began w bs (to_come t)) e began
 
 module _ (w : ℕ) (bs : List ℕ) (left : List (ℕ × Raw)) (at : ℕ) (s : Seen) (so : Sofar w bs left at s) where
   module _ (x : Placed) (rest : List (ℕ × Raw)) (gives : left ≡ place x ∷ rest) where

@@ -34,13 +34,14 @@ pub struct ServiceEntry<'a> {
     pub counts: &'a [u8],
 }
 
-// A number in one byte, where 255 stands for none.
+// A number in one byte, where 255 stands for none, as the format has it.
 pub(crate) fn optional(byte: u8) -> Option<u8>
     ensures { result ≡ number_of byte }
 {
     (byte != 255).then_some(byte)
 }
 
+// Two bytes, where no instance stands for the composite itself.
 fn end(instance: u8, port: u8) -> End
     ensures { result ≡ end_of instance port }
 {

@@ -34,6 +34,7 @@ fn grammar(bytes: &[u8], width: Width) -> Result<(), Refusal>
         .next()
         .and_then(|head| Seen::start(head.part))
         .ok_or(Refusal::Grammar { at: 0 })?;
+    // the interface takes six bytes
     let mut end = 6;
     for field in fields {
         if !seen.follow(width, field.part) {

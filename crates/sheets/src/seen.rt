@@ -9,6 +9,7 @@ pub(crate) struct Seen {
     pub(crate) kind: Kind,
     pub(crate) inputs: u8,
     pub(crate) outputs: u8,
+    // by its number, as the next field's is compared
     pub(crate) last: u8,
     pub(crate) counts: [u8; 8],
     pub(crate) entries: [u8; 8],
