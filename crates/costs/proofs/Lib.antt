@@ -1,5 +1,4 @@
 -- The laws of the crate; crates above import Interface, and the worked cases also Same. Assumes nothing.
 pub mod Interface
-mod Numbers
 mod Writes
 mod JoinLaws

@@ -4,7 +4,7 @@ ghost use Rattle.costs.specs.MeasureLaws.{memory_lawful, two_bytes};
 
 use crate::measure::Measure;
 
-#[derive(Clone, Copy)]
+#[derive(Clone, Copy, PartialEq, Eq, PartialOrd, Ord, Debug)]
 pub struct Memory {
     pub value: u16,
 }
@@ -34,13 +34,11 @@ impl Measure for Memory {
     }
 
     fn covers(self, other: Memory) -> bool {
-        self.value >= other.value
+        self >= other
     }
 
     fn higher(self, other: Memory) -> Memory {
-        Memory {
-            value: self.value.max(other.value),
-        }
+        self.max(other)
     }
 
     fn width() -> usize {

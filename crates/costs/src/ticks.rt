@@ -1,7 +1,7 @@
 // Ticks: an amount of time, an unsigned number of 4 bytes; 4,294,967,295 means over.
 ghost use Rattle.std.specs.Prelude.{◌^◌, ◌<◌};
 
-#[derive(Clone, Copy)]
+#[derive(Clone, Copy, PartialEq, Eq, PartialOrd, Ord, Debug)]
 pub struct Ticks {
     pub value: u32,
     ghost fits: { value < 2 ^ 32 },
