@@ -1,14 +1,8 @@
 -- The step of a join. Assumes nothing.
-use Rattle.std.proofs.Common.{◌≡◌, ℕ, ◌+◌, ◌*◌, ◌<◌, ◌≤◌, List, [], ◌∷◌, ◌++◌, map, length, get_or, take, sym, ap, ◌∙◌, mul-le-mul_right, add-mul, arith}
+use Rattle.std.proofs.Common.{◌≡◌, ℕ, ◌+◌, ◌<◌, List, [], ◌∷◌, ◌++◌, map, length, get_or, take, sym, ap, ◌∙◌}
 use Rattle.std.proofs.lemmas.List.{take_more, flat_map_more}
 use Rattle.costs.specs.Amounts.{Amounts}
 use Rattle.costs.specs.Lists.{sums}
-
--- one row more of m places
-pub row_fits : (i n m : ℕ) → i < n → i * m + m ≤ n * m
-row_fits i n m l =
-    let more : i + 1 ≤ n = omega arith in
-    omega (arith, add-mul i 1 m, mul-le-mul_right m more)
 
 pub sums_more : {X : Type 0} (ops : Amounts X) (xs ys : List X) (i : ℕ) (x : X) → i < length xs → x ≡ get_or xs i x → sums ops (take i xs) ys ++ map (ops.plus x) ys ≡ sums ops (take (i + 1) xs) ys
 sums_more ops xs ys i x l r =

@@ -1,6 +1,5 @@
 -- The laws of the crate; crates above import Interface, and the worked cases also Same. Assumes nothing.
 pub mod Interface
-mod Numbers
 mod Writes
 pub mod Segments
 mod JoinLaws

@@ -1,4 +1,4 @@
--- How keep and merge reduce a list. Opened by the worked cases alone. Assumes nothing.
+-- How keep and merge reduce a list; `any` says that some element passes a test. Opened by the worked cases alone. Assumes nothing.
 use Rattle.std.specs.Prelude.{Bool, cond, not, ◌&&◌, List, [], ◌∷◌, ◌++◌}
 use Rattle.std.specs.List.{list_any as any}
 use Rattle.costs.specs.Amounts.{Amounts}

@@ -11,6 +11,7 @@ fn add_each<M: Measure>(x: Entry<M>, ys: &[Entry<M>], into: &mut [Entry<M>], at:
     requires { at + length ys.now ≤ length into.old }
     ensures { Written into.old into.new (at + length ys.now) (take at into.old ++ map ((entry_ops M.Measure.ops).plus x) ys.now) }
 {
+    // by index, since a proof knows nothing of what a `zip` over `iter_mut` wrote
     for (j, y) in ys.iter().enumerate() {
         into[at + j] = x.sum(*y);
     }

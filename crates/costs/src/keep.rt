@@ -1,8 +1,8 @@
 // Keep: the reducer that drops an entry that a different one covers, or that equals an earlier one, and preserves the order.
 ghost use Rattle.std.specs.Prelude.{◌≡◌, ◌≤◌, not, length, take, filter};
+ghost use Rattle.std.specs.List.{list_any as any};
 ghost use Rattle.costs.specs.Entries.{entry_ops};
 ghost use Rattle.costs.specs.Lists.{By};
-ghost use Rattle.std.specs.List.{list_any as any};
 ghost use Rattle.costs.specs.Reducers.{beats, kept};
 ghost use Rattle.costs.specs.KeepLaws.{keep_sound};
 

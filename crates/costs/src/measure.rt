@@ -18,7 +18,7 @@ pub trait Measure: Copy {
     fn sum(self, other: Self) -> Self
         ensures { result ≡ ops.plus self other };
 
-    // Whether it is enough wherever the other is.
+    // Whether it is enough wherever the other is. Each measure says so itself, and which of two is higher: not every covering is the `Ord` of a type.
     fn covers(self, other: Self) -> bool
         ensures { result ≡ ops.covers self other };
 

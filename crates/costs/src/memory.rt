@@ -6,7 +6,7 @@ ghost use Rattle.costs.specs.MeasureLaws.{memory_lawful, two_bytes};
 use crate::measure::Measure;
 use std::fmt;
 
-#[derive(Clone, Copy)]
+#[derive(Clone, Copy, PartialEq, Eq, PartialOrd, Ord, Debug)]
 pub struct Memory {
     pub value: u16,
 }
@@ -45,13 +45,11 @@ impl Measure for Memory {
     }
 
     fn covers(self, other: Memory) -> bool {
-        self.value >= other.value
+        self >= other
     }
 
     fn higher(self, other: Memory) -> Memory {
-        Memory {
-            value: self.value.max(other.value),
-        }
+        self.max(other)
     }
 
     fn width() -> usize {

@@ -27,13 +27,11 @@ impl Measure for Ticks {
     }
 
     fn covers(self, other: Ticks) -> bool {
-        self.value >= other.value
+        self >= other
     }
 
     fn higher(self, other: Ticks) -> Ticks {
-        Ticks {
-            value: self.value.max(other.value),
-        }
+        self.max(other)
     }
 
     fn width() -> usize {

@@ -9,7 +9,7 @@ use costs::keep::Keep;
 use costs::measure::Measure;
 use costs::reducer::Reducer;
 use costs::ticks::Ticks;
-use std::env;
+use std::{array, env};
 
 // Entry n of 1,024: the more ticks, the fewer events are sent.
 fn entry(n: u32) -> Entry<Ticks>
@@ -20,13 +20,6 @@ fn entry(n: u32) -> Entry<Ticks>
     Entry {
         amount: Ticks { value: n },
         counts: Counts::read(&[0, 0, 0, 0, 0, 0, (rest / 4) as u8, (rest % 4) as u8]),
-    }
-}
-
-// The entries in mixed order.
-fn fill(rows: &mut [Entry<Ticks>; 1024]) {
-    for i in 0..1024u32 {
-        rows[i as usize] = entry(i * 389 % 1024);
     }
 }
 
@@ -53,9 +46,9 @@ fn run(times: usize, size: usize) -> u64
     requires some { 1 ≤ size }
     requires few { size ≤ 1024 }
 {
-    let mut rows = [Entry::zero(); 1024];
+    // in mixed order
+    let mut rows = array::from_fn(|i| entry((i * 389 % 1024) as u32));
     let mut into = [Entry::zero(); 1024];
-    fill(&mut rows);
     let mut sum = 0;
     for n in 0..times {
         sum = turn(n, size, &mut rows, &mut into, sum);
@@ -65,17 +58,11 @@ fn run(times: usize, size: usize) -> u64
 
 // The words are how many times, and how many entries, 1 to 1,024.
 fn main(rt: HostRuntime) -> anyhow::Result<()> {
-    let mut times = 1;
-    let mut size: usize = 1024;
-    for (at, word) in env::args(&rt)?.skip(1).enumerate() {
-        let n = word.parse::<usize>()?;
-        if at == 0 {
-            times = n;
-        } else {
-            size = n;
-        }
-    }
-    let sum = run(times, size.max(1).min(1024));
+    let mut words = env::args(&rt)?.skip(1);
+    let times = words.next().map_or(Ok(1), |word| word.parse::<usize>())?;
+    // of further words the last counts
+    let size = words.try_fold(1024, |_, word| word.parse::<usize>())?;
+    let sum = run(times, size.clamp(1, 1024));
     println!(rt; "{times} {sum}")?;
     Ok(())
 }

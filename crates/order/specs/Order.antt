@@ -1,5 +1,5 @@
 -- The order in which the nodes of a graph are worked: always the lowest whose ways all lead to worked nodes. Assumes nothing.
-use Rattle.std.specs.Prelude.{◌≡◌, ℕ, ◌+◌, ◌<◌, ◌≤◌, Bool, true, false, ◌⊎◌, List, [], ◌∷◌, length, take, slice_index, slice_index_or}
+use Rattle.std.specs.Prelude.{◌≡◌, ℕ, ◌+◌, ◌<◌, ◌≤◌, Bool, true, false, ◌⊎◌, List, [], ◌∷◌, Option, MatchOption, length, take, slice_index, slice_index_or}
 use Rattle.std.specs.List.{ContainsAt as Has}
 
 -- P holds of some element
@@ -14,6 +14,10 @@ Marked marks t = slice_index_or marks t false ≡ true
 -- of the numbers below n, those of which P holds
 abbrev pub Below : ℕ → (ℕ → Type 0) → ℕ → Type 0
 Below n P k = (k < n) × P k
+
+-- the lowest node of which P does not hold, where there is one, and else that P holds of each
+abbrev pub LowestOrNone : (ℕ → Type 0) → (ℕ → Type 0) → Option ℕ → Type 0
+LowestOrNone Node P found = MatchOption found ((t : ℕ) → Node t → P t) (λ s. Node s × ((P s → ⊥) × ((t : ℕ) → t < s → Node t → P t)))
 
 -- all ways of s lead to nodes of which P holds
 abbrev pub Ready : (ℕ → ℕ → Type 0) → (ℕ → Type 0) → ℕ → Type 0
@@ -37,6 +41,10 @@ module _ (Node : ℕ → Type 0) (leads : ℕ → ℕ → Type 0) where
   -- each unworked node has a way to an unworked one, so none is next
   abbrev pub Stuck : (ℕ → Type 0) → Type 0
   Stuck Worked = (t : ℕ) → Node t → (Worked t → ⊥) → (d : ℕ) × Barred Node leads Worked t d
+
+  -- the next node, where there is one, and else that none is
+  abbrev pub NextOrNone : (ℕ → Type 0) → Option ℕ → Type 0
+  NextOrNone Worked found = MatchOption found (Stuck Worked) (Next Worked)
 
   -- the nodes ws were worked in that order, each the next one at its turn
   abbrev pub Order : List ℕ → Type 0

@@ -3,7 +3,7 @@
 
 ghost use Rattle.std.specs.Prelude.{◌≡◌, ℕ, ◌<◌, ◌≤◌, true, false, length, take, Decides, IsTrue, MatchOption, MatchResult, slice_index, slice_index_or};
 ghost use Rattle.std.specs.List.{ContainsAt as Has};
-ghost use Rattle.order.specs.Order.{Next, Stuck, Order, Planned, Unworkable, Marked, Ready, Barred, MarksOf, Below};
+ghost use Rattle.order.specs.Order.{NextOrNone, LowestOrNone, Next, Stuck, Order, Planned, Unworkable, Marked, Ready, Barred, MarksOf, Below};
 ghost use Rattle.order.specs.Ways.{NoCircle, Endless};
 
 // A graph of numbered nodes, told by a ghost relation and the test for a way that is still open.
@@ -27,57 +27,65 @@ pub trait Graph {
         ensures { MatchOption result (Ready (leads self.now) (Marked marks.now) k) (Barred (Below (nodes self.now) (node self.now)) (leads self.now) (Marked marks.now) k) };
 }
 
-// Whether k is an unmarked node.
-fn is_left<G: Graph>(graph: &G, k: usize, marks: &[bool]) -> bool
-    requires { (k < length marks.now) × (length marks.now ≡ G.nodes graph.now) }
-    ensures { Decides result (G.node graph.now k × (Marked marks.now k → ⊥)) }
-{
-    graph.is_node(k) && !marks[k]
+// A graph while its nodes are worked: one mark for each number, set where its node was worked.
+#[derive(Drop)]
+struct Working<'a, G: Graph> {
+    graph: &'a G,
+    marks: &'a mut [bool],
+    ghost one_each: { length marks.now ≡ G.nodes graph.now },
 }
 
-// Whether k is an unmarked node whose ways all lead to marked ones; an unmarked one that is not has a way to another.
-fn is_ready<G: Graph>(graph: &G, k: usize, marks: &[bool]) -> bool
-    requires within { k < length marks.now }
-    requires marks { length marks.now ≡ G.nodes graph.now }
-    ensures ready { IsTrue result → G.node graph.now k × (Marked marks.now k → ⊥) × Ready (G.leads graph.now) (Marked marks.now) k }
-    ensures barred { result ≡ false → G.node graph.now k → (Marked marks.now k → ⊥) → (d : ℕ) × Barred (Below (G.nodes graph.now) (G.node graph.now)) (G.leads graph.now) (Marked marks.now) k d }
-{
-    is_left(graph, k, marks) && graph.barred(k, marks).is_none()
-}
-
-// The next node to work.
-fn next_node<G: Graph>(graph: &G, marks: &[bool]) -> Option<usize>
-    requires { length marks.now ≡ G.nodes graph.now }
-    ensures { MatchOption result (Stuck (Below (G.nodes graph.now) (G.node graph.now)) (G.leads graph.now) (Marked marks.now)) (Next (Below (G.nodes graph.now) (G.node graph.now)) (G.leads graph.now) (Marked marks.now)) }
-{
-    (0..marks.len()).find(|k| is_ready(graph, *k, marks))
-}
-
-// Marks the nodes that can be worked, writes them in working order, and answers how many there are.
-fn working_order<G: Graph>(graph: &G, marks: &mut [bool], order: &mut [usize]) -> usize
-    requires { (length marks.old ≡ G.nodes graph.now) × (length marks.old ≤ length order.old) }
-    ensures within { result ≤ length order.new }
-    ensures order { Order (Below (G.nodes graph.now) (G.node graph.now)) (G.leads graph.now) (take result order.new) }
-    ensures marks { MarksOf marks.new (take result order.new) }
-    ensures none { Stuck (Below (G.nodes graph.now) (G.node graph.now)) (G.leads graph.now) (Has (take result order.new)) }
-{
-    marks.fill(false);
-    let mut k = 0;
-    // each turn asks with the marks that the turn before it wrote, so this is no chain
-    while let Some(s) = next_node(graph, marks) {
-        marks[s] = true;
-        order[k] = s;
-        k += 1;
+impl<'a, G: Graph> Working<'a, G> {
+    // Whether k is an unmarked node.
+    fn is_left(&self, k: usize) -> bool
+        requires { k < length self.now.marks.now }
+        ensures { Decides result (G.node self.now.graph.now k × (Marked self.now.marks.now k → ⊥)) }
+    {
+        self.graph.is_node(k) && !self.marks[k]
     }
-    k
-}
 
-// The lowest node that is not marked.
-fn lowest_unmarked<G: Graph>(graph: &G, marks: &[bool]) -> Option<usize>
-    requires { length marks.now ≡ G.nodes graph.now }
-    ensures { MatchOption result ((t : ℕ) → Below (G.nodes graph.now) (G.node graph.now) t → Marked marks.now t) (λ s. Below (G.nodes graph.now) (G.node graph.now) s × ((Marked marks.now s → ⊥) × ((t : ℕ) → t < s → Below (G.nodes graph.now) (G.node graph.now) t → Marked marks.now t))) }
-{
-    (0..marks.len()).find(|t| is_left(graph, *t, marks))
+    // Whether k is an unmarked node whose ways all lead to marked ones; an unmarked one that is not has a way to another.
+    fn is_ready(&self, k: usize) -> bool
+        requires { k < length self.now.marks.now }
+        ensures ready { IsTrue result → G.node self.now.graph.now k × (Marked self.now.marks.now k → ⊥) × Ready (G.leads self.now.graph.now) (Marked self.now.marks.now) k }
+        ensures barred { result ≡ false → G.node self.now.graph.now k → (Marked self.now.marks.now k → ⊥) → (d : ℕ) × Barred (Below (G.nodes self.now.graph.now) (G.node self.now.graph.now)) (G.leads self.now.graph.now) (Marked self.now.marks.now) k d }
+    {
+        self.is_left(k) && self.graph.barred(k, self.marks).is_none()
+    }
+
+    // The next node to work.
+    fn next(&self) -> Option<usize>
+        ensures { NextOrNone (Below (G.nodes self.now.graph.now) (G.node self.now.graph.now)) (G.leads self.now.graph.now) (Marked self.now.marks.now) result }
+    {
+        (0..self.marks.len()).find(|k| self.is_ready(*k))
+    }
+
+    // The lowest node that is not marked.
+    fn lowest_left(&self) -> Option<usize>
+        ensures { LowestOrNone (Below (G.nodes self.now.graph.now) (G.node self.now.graph.now)) (Marked self.now.marks.now) result }
+    {
+        (0..self.marks.len()).find(|t| self.is_left(*t))
+    }
+
+    // Marks the nodes that can be worked, writes them in working order, and answers how many there are.
+    fn run(&mut self, order: &mut [usize]) -> usize
+        requires { length self.old.marks.now ≤ length order.old }
+        ensures graph { self.new.graph.now ≡ self.old.graph.now }
+        ensures within { result ≤ length order.new }
+        ensures order { Order (Below (G.nodes self.new.graph.now) (G.node self.new.graph.now)) (G.leads self.new.graph.now) (take result order.new) }
+        ensures marks { MarksOf self.new.marks.now (take result order.new) }
+        ensures none { Stuck (Below (G.nodes self.new.graph.now) (G.node self.new.graph.now)) (G.leads self.new.graph.now) (Has (take result order.new)) }
+    {
+        self.marks.fill(false);
+        let mut k = 0;
+        // each turn asks with the marks that the turn before it wrote, so this is no chain
+        while let Some(s) = self.next() {
+            self.marks[s] = true;
+            order[k] = s;
+            k += 1;
+        }
+        k
+    }
 }
 
 // The working order of all nodes, in the first rows of `order`, and how many they are; or the lowest node that cannot be worked.
@@ -89,8 +97,9 @@ pub fn plan<G: Graph>(graph: &G, marks: &mut [bool], order: &mut [usize]) -> Res
     ensures order { MatchResult result (Planned (Below (G.nodes graph.now) (G.node graph.now)) (G.leads graph.now) order.new) (Unworkable (Below (G.nodes graph.now) (G.node graph.now)) (G.leads graph.now)) }
     ensures circles { MatchResult result (λ _. NoCircle (Below (G.nodes graph.now) (G.node graph.now)) (G.leads graph.now)) (Endless (G.leads graph.now)) }
 {
-    let count = working_order(graph, marks, order);
-    match lowest_unmarked(graph, marks) {
+    let mut working = Working { graph, marks };
+    let count = working.run(order);
+    match working.lowest_left() {
         Some(s) => Err(s),
         None => Ok(count),
     }

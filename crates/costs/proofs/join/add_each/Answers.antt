@@ -1,14 +1,10 @@
 -- Each turn writes one sum more.
-use Rattle.std.proofs.Common.{◌≡◌, ◌+◌, [], ◌∷◌, ◌++◌, map, get_or, take, set, sym, refl, ap, ◌∙◌, arith}
-use Rattle.std.proofs.lemmas.List.{take_all, append-nil, append_assoc, map_more}
+use Rattle.std.proofs.Common.{◌≡◌, ◌+◌, [], ◌∷◌, ◌++◌, map, get_or, take, set, sym, ap, ◌∙◌, arith}
+use Rattle.std.proofs.lemmas.List.{append_assoc, map_more}
 use Rattle.costs.specs.Entries.{entry_ops}
 use Rattle.costs.specs.Lists.{Written}
 use Rattle.costs.proofs.Writes.{written_more, written_as}
 use Rattle.costs.proofs.join.add_each.Goals as goal
-
-pub loop-j-init : goal.loop-j-init
-loop-j-init g c =
-    written_as _ _ (take c.args.at c.args.into.now) _ c.args.at _ (omega arith) (sym (append-nil _)) (record { front = refl; rest = refl })
 
 pub loop-j-preserved : goal.loop-j-preserved
 loop-j-preserved g c =
@@ -26,9 +22,3 @@ loop-j-preserved g c =
     let more : Written before rows (c.args.at + j + 1) ((front ++ map f (take j ys)) ++ z ∷ []) =
     written_more before c.loop-j.into (front ++ map f (take j ys)) (c.args.at + j) z (omega arith) c.loop-j.invariant in
     written_as before rows ((front ++ map f (take j ys)) ++ z ∷ []) (front ++ map f (take (j + 1) ys)) (c.args.at + j + 1) (c.args.at + (j + 1)) (omega arith) out more
-
-pub returns : goal.returns
-returns g c =
-    let f = (entry_ops g.M.Measure.ops).plus c.args.x in
-    let front = take c.args.at c.args.into.now in
-    written_as _ _ _ _ (c.args.at + c.loop-j.j) _ (omega arith) (ap (λ zs. front ++ map f zs) (take_all _ _ c.loop-j-test.false)) c.loop-j.invariant

@@ -1,11 +1,8 @@
 -- One row more stays, or does not.
-use Rattle.std.proofs.Common.{not, sym, refl, ap, ◌∙◌, arith}
-use Rattle.std.proofs.lemmas.List.Filters.{FiltersInPlace-all, FiltersInPlace-more_no, FiltersInPlace-more_set}
+use Rattle.std.proofs.Common.{not, sym, ap, ◌∙◌, arith}
+use Rattle.std.proofs.lemmas.List.Filters.{FiltersInPlace-more_no, FiltersInPlace-more_set}
 use Rattle.costs.proofs.keep.retain.Goals as goal
 use Rattle.costs.proofs.keep.retain.Goals.{then-not-beats, else-not-beats}
-
-pub loop-i-init : goal.loop-i-init
-loop-i-init g c = record { front = refl; rest = refl; behind = omega arith; within = omega arith; long = refl }
 
 pub loop-i-preserved : goal.loop-i-preserved
 loop-i-preserved g c =
@@ -13,6 +10,3 @@ loop-i-preserved g c =
       | then-not-beats w ↦ rw (w.rows-is, w.k-is) (FiltersInPlace-more_set c.loop-i.invariant (omega arith) (ap not (sym c.beats.ensures ∙ w.if-not-beats.true)) c.index-rows-i.is)
       | else-not-beats w ↦ rw (w.rows-is, w.k-is) (FiltersInPlace-more_no c.loop-i.invariant (omega arith) (ap not (sym c.beats.ensures ∙ w.if-not-beats.false)) c.index-rows-i.is)
     ]
-
-pub returns : goal.returns
-returns g c = record { few = omega (arith, c.loop-i.invariant.behind, c.loop-i.invariant.within); left = FiltersInPlace-all c.loop-i.invariant c.loop-i-test.false }

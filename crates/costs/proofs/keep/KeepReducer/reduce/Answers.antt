@@ -1,7 +1,6 @@
 -- Each turn keeps or drops one entry.
-use Rattle.std.proofs.Common.{sym, refl, ap, ◌∙◌, arith}
-use Rattle.std.proofs.lemmas.List.{length-take, take_all}
-use Rattle.costs.specs.Entries.{entry_ops}
+use Rattle.std.proofs.Common.{sym, refl, ◌∙◌, arith}
+use Rattle.std.proofs.lemmas.List.{length-take}
 use Rattle.costs.specs.Reducers.{kept}
 use Rattle.costs.specs.EntryLaws.{entry_lawful}
 use Rattle.costs.specs.KeepLaws.{turn_takes, turn_drops}
@@ -28,10 +27,3 @@ loop-x-preserved g c =
       | else-not-covered w ↦
           rw (w.into-is, w.k-is) (omega (arith, c.loop-x.invariant.0), turn_drops laws from into k i x c.loop-x-test.true c.x-item.is c.loop-x.invariant.1 (sym c.covered.ensures ∙ w.if-not-covered.false), c.loop-x.invariant.2)
     ]
-
-pub returns : goal.returns
-returns g c = record {
-  within = omega (arith, c.loop-x.invariant.0);
-  result = c.loop-x.invariant.1 ∙ ap (kept (entry_ops g.M.Measure.ops)) (take_all _ _ c.loop-x-test.false);
-  rest = c.loop-x.invariant.2;
-}
