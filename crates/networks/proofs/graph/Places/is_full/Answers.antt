@@ -8,12 +8,12 @@ use Rattle.networks.specs.Rows.{net_of}
 use Rattle.networks.specs.Ways.{SendsOn}
 use Rattle.networks.proofs.Found.{decides_any}
 use Rattle.networks.proofs.Ways.{full_from, full_to}
-use Rattle.networks.proofs.graph.is_full.Goals as goal
+use Rattle.networks.proofs.graph.Places.is_full.Goals as goal
 
 pub returns-then-is_place : goal.returns-then-is_place
 returns-then-is_place g c =
     let k = c.args.k in
-    let places = c.args.places.now in
+    let places = c.args.self.now in
     let cs = places.net.connections.now in
     let net = net_of places.net (g.B.Beneath.faces places.beneath.now) in
     let card : _ → _ → List (Entry g.row.M.Denot) = g.B.Beneath.cards places.beneath.now in
