@@ -11,21 +11,22 @@ use denote.Param.Members.{Mut}
 use Rattle.order.proofs.Ways.{any_at}
 use Rattle.order.specs.Order.{Any}
 
-module _ {X : Type 0} (P No : X → Type 0) (apart : (x : X) → No x → P x → ⊥) where
+module _ {X : Type 0} (P : X → Type 0) where
   held_any : (xs : List X) (k : ℕ) → k < length xs → HoldsAt P xs k → Any P xs
   held_any [] k within h = absurd (omega arith)
   held_any (x ∷ xs) zero within h = inl (h x)
   held_any (x ∷ xs) (suc k) within h = inr (held_any xs k (omega arith) h)
 
-  none_any : (xs : List X) → AllWithin No xs 0 (length xs) → Any P xs → ⊥
-  none_any (x ∷ xs) none (inl p) = apart x (none 0 x (omega arith) (omega arith)) p
-  none_any (x ∷ xs) none (inr a) = none_any xs (λ k d low high. none (suc k) d (omega arith) (omega arith)) a
-  none_any [] none a = absurd a
+  -- what holds of some element, where that gives Q of each
+  pub any_then : (Q : Type 0) (xs : List X) → AllWithin (λ x. P x → Q) xs 0 (length xs) → Any P xs → Q
+  any_then Q [] all none = absurd none
+  any_then Q (x ∷ xs) all (inl p) = all 0 x (omega arith) (omega arith) p
+  any_then Q (x ∷ xs) all (inr h) = any_then Q xs (λ k d low high. all (suc k) d (omega arith) (omega arith)) h
 
   -- what `any` answers, by what its closure answers
-  pub decides_any : (r : Bool) (xs : List X) → MatchBool r ((k : ℕ) × (k < length xs) × HoldsAt P xs k) (AllWithin No xs 0 (length xs)) → Decides r (Any P xs)
+  pub decides_any : (r : Bool) (xs : List X) → MatchBool r ((k : ℕ) × (k < length xs) × HoldsAt P xs k) (AllWithin (λ x. P x → ⊥) xs 0 (length xs)) → Decides r (Any P xs)
   decides_any true xs h = (λ _. held_any xs h.0 h.1 h.2, λ _. refl)
-  decides_any false xs h = (λ e. absurd (clash e), λ a. absurd (none_any xs h a))
+  decides_any false xs h = (λ e. absurd (clash e), λ a. absurd (any_then ⊥ xs h a))
 
 -- what holds of the first n holds of each of them
 pub all_within : {X : Type 0} (P : X → Type 0) (xs : List X) (n : ℕ) → n ≤ length xs → AllWithin P xs 0 n → AllByRecursion P (take n xs)
@@ -49,12 +50,6 @@ module _ {F B : Type 0} (g : Mut F (ℕ × Unit {0}) B) (f : F) (P : ℕ → B �
 
   pub made_each : (ys : List B) (n : ℕ) → IsFromFnResult g f ys n → (k : ℕ) (d : B) → k < n → P k (get_or ys k d)
   made_each ys n h k d within = made_from ys 0 n f refl h.each k d (omega arith) (omega arith)
-
--- what holds of some element, where that gives Q of each
-pub any_then : {X : Type 0} (P : X → Type 0) (Q : Type 0) (xs : List X) → AllWithin (λ x. P x → Q) xs 0 (length xs) → Any P xs → Q
-any_then P Q [] all none = absurd none
-any_then P Q (x ∷ xs) all (inl p) = all 0 x (omega arith) (omega arith) p
-any_then P Q (x ∷ xs) all (inr h) = any_then P Q xs (λ k d low high. all (suc k) d (omega arith) (omega arith)) h
 
 -- what `find_map` answers, by what its closure answers
 module _ {A B F R : Type 0} {v : A → B} {g : Mut F (A × Unit {0}) (Option R)} {f : F} (No : B → Type 0) (Yes : B → R → Type 0)

@@ -60,7 +60,7 @@ fn is_repeated(cs: &[Connection], k: usize) -> bool
     requires { k < length cs.now }
     ensures { Decides result (RepeatedBy cs.now k) }
 {
-    cs[..k].contains(&cs[k])
+    cs[..k].iter().any(|c| *c == cs[k])
 }
 
 // The first connection that stands among those before it.
