@@ -1,5 +1,5 @@
 -- A forming, one step at a time. Assumes nothing.
-use Rattle.std.proofs.Common.{◌≡◌, ℕ, zero, suc, ◌+◌, ◌-◌, ◌<◌, ◌≤◌, true, false, cond, List, [], ◌∷◌, ◌++◌, length, get_or, drop, Some, None, Option, sym, refl, ap, ◌∙◌, subst, inl, inr, arith}
+use Rattle.std.proofs.Common.{◌≡◌, ℕ, zero, suc, ◌+◌, ◌-◌, ◌<◌, ◌≤◌, true, false, cond, List, [], ◌∷◌, length, get_or, drop, Some, None, Option, sym, refl, ap, ◌∙◌, subst, inl, inr, arith}
 use borrow.Author.Tests.{clash}
 use Rattle.std.proofs.lemmas.List.{at_drop_more, drop_all}
 use Rattle.costs.specs.Amounts.{Amounts}
@@ -10,7 +10,7 @@ use Rattle.sheets.specs.declared.words.End.{End}
 use Rattle.sheets.specs.declared.words.End.TheVariants.{Inside}
 use Rattle.networks.specs.Forming.{Formation, list, long, Then, Forms}
 use Rattle.networks.specs.Networks.{same, targets, outputs}
-use Rattle.networks.specs.Cards.{target_list, Joins, Times, Follows, SourceList, Sends, SendsAll, EntryList, Entries}
+use Rattle.networks.specs.Cards.{target_list, Joins, Times, Follows, SourceList, Sends, SendsAll}
 use Rattle.networks.specs.Rows.{has_some}
 
 module _ {X : Type 0} (P : Formation X → Type 0) (Q : List X → Formation X → Type 0) where
@@ -42,9 +42,6 @@ module _ {M : Type 0} (ops : Amounts M) (gives : List (Entry M) → List (Entry 
   pub follows_on : (ts : List End) (t : End) (us : List End) (xs zs : List (Entry M)) → ts ≡ t ∷ us → Joins ops gives xs (target_list ops T t) (list zs) → (o : Formation (Entry M)) → Follows ops gives T us zs o → Follows ops gives T ts xs o
   follows_on ts t us xs zs is p o q = subst (λ l. Follows ops gives T l xs o) (sym is) (then_on (Joins ops gives xs (target_list ops T t)) (Follows ops gives T us) zs p o q)
 
-  pub follows_long : (ts : List End) (t : End) (us : List End) (xs : List (Entry M)) → ts ≡ t ∷ us → Joins ops gives xs (target_list ops T t) long → Follows ops gives T ts xs long
-  follows_long ts t us xs is p = subst (λ l. Follows ops gives T l xs long) (sym is) (inl p)
-
 -- the same answer to another question
 pub forms_as : {X : Type 0} (P Q : Formation X → Type 0) (xs : List X) → ((o : Formation X) → P o → Q o) → (r : Option (Unit {0})) → Forms P xs r → Forms Q xs r
 forms_as P Q xs to (Some _) h = to (list xs) h
@@ -67,24 +64,10 @@ unfolding outputs
 outputs_all o h = drop_all o outputs h
 
 module _ {M : Type 0} (ops : Amounts M) (gives : List (Entry M) → List (Entry M) → Type 0) (T : ℕ → ℕ → List (Entry M)) where
-  pub sends_zero : (ts : List End) (n : ℕ) (xs : List (Entry M)) → n ≡ 0 → Sends ops gives T ts n xs (list xs)
-  sends_zero [] n xs z = refl
-  sends_zero (t ∷ ts) zero xs z = refl
-  sends_zero (t ∷ ts) (suc n) xs z = absurd (omega arith)
-
-  pub sends_none : (ts : List End) (n : ℕ) (xs : List (Entry M)) → has_some ts ≡ false → Sends ops gives T ts n xs (list xs)
-  sends_none [] n xs e = refl
-  sends_none (t ∷ ts) n xs e = absurd (clash (sym e))
-
   pub sends_on : (ts : List End) (n : ℕ) (xs ys : List (Entry M)) → has_some ts ≡ true → 1 ≤ n → SourceList ops gives T ts (list ys) → (o : Formation (Entry M)) → Times ops gives n ys xs o → Sends ops gives T ts n xs o
   sends_on [] n xs ys e some p o q = absurd (clash e)
   sends_on (t ∷ ts) zero xs ys e some p o q = absurd (omega arith)
   sends_on (t ∷ ts) (suc n) xs ys e some p o q = then_on (SourceList ops gives T (t ∷ ts)) (λ zs. Times ops gives (suc n) zs xs) ys p o q
-
-  pub sends_long : (ts : List End) (n : ℕ) (xs : List (Entry M)) → has_some ts ≡ true → 1 ≤ n → SourceList ops gives T ts long → Sends ops gives T ts n xs long
-  sends_long [] n xs e some p = absurd (clash e)
-  sends_long (t ∷ ts) zero xs e some p = absurd (omega arith)
-  sends_long (t ∷ ts) (suc n) xs e some p = inl p
 
   module _ (cs : List Connection) (i : ℕ) where
     pub all_on : (e : Entry M) (os : List ℕ) (o : ℕ) (rest : List ℕ) (xs zs : List (Entry M)) → os ≡ o ∷ rest → Sends ops gives T (targets cs (Inside i o)) (count e o) xs (list zs) → (q : Formation (Entry M)) → SendsAll ops gives T cs i e rest zs q → SendsAll ops gives T cs i e os xs q
@@ -92,9 +75,3 @@ module _ {M : Type 0} (ops : Amounts M) (gives : List (Entry M) → List (Entry 
 
     pub all_long : (e : Entry M) (os : List ℕ) (o : ℕ) (rest : List ℕ) (xs : List (Entry M)) → os ≡ o ∷ rest → Sends ops gives T (targets cs (Inside i o)) (count e o) xs long → SendsAll ops gives T cs i e os xs long
     all_long e os o rest xs is p = subst (λ l. SendsAll ops gives T cs i e l xs long) (sym is) (inl p)
-
-    pub entries_on : (es : List (Entry M)) (e : Entry M) (rest xs ys : List (Entry M)) → es ≡ e ∷ rest → EntryList ops gives T cs i e (list ys) → (q : Formation (Entry M)) → Entries ops gives T cs i rest (xs ++ ys) q → Entries ops gives T cs i es xs q
-    entries_on es e rest xs ys is p q h = subst (λ l. Entries ops gives T cs i l xs q) (sym is) (then_on (EntryList ops gives T cs i e) (λ zs. Entries ops gives T cs i rest (xs ++ zs)) ys p q h)
-
-    pub entries_long : (es : List (Entry M)) (e : Entry M) (rest xs : List (Entry M)) → es ≡ e ∷ rest → EntryList ops gives T cs i e long → Entries ops gives T cs i es xs long
-    entries_long es e rest xs is p = subst (λ l. Entries ops gives T cs i l xs long) (sym is) (inl p)

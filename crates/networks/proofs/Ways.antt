@@ -1,7 +1,6 @@
 -- Leading, connection by connection. Assumes nothing.
-use Rattle.std.proofs.Common.{◌≡◌, ℕ, ◌/◌, ◌%◌, ◌≤◌, Bool, true, false, ◌&&◌, cond, List, [], ◌∷◌, sym, refl, ap, ◌∙◌, subst, inl, inr, ⊎_elim, Decides, arith}
+use Rattle.std.proofs.Common.{◌≡◌, ℕ, ◌/◌, ◌%◌, ◌≤◌, true, cond, List, [], ◌∷◌, sym, refl, ap, ◌∙◌, subst, inl, inr, ⊎_elim, Decides, arith}
 use borrow.Author.Tests.{clash}
-use Rattle.std.specs.List.{IsAnyAnswer}
 use Rattle.std.proofs.lemmas.Bool.{cases_Bool, and_parts, eqb-true, eq-eqb, and_from}
 use Rattle.costs.specs.Entries.{count}
 use Rattle.costs.specs.Lists.{Among}
@@ -11,11 +10,9 @@ use Rattle.sheets.specs.declared.words.Connection.{Connection}
 use Rattle.sheets.specs.declared.words.End.{End}
 use Rattle.sheets.specs.declared.words.End.TheVariants.{Outside, Inside}
 use Rattle.costs.proofs.Interface.{among_all}
-use Rattle.networks.specs.Networks.{same, same_ends, targets, Network, Named, Node, Target, Leads, Full}
+use Rattle.networks.specs.Networks.{same, targets, Network, Named, Node, Target, Leads, Full}
 use Rattle.networks.proofs.Places.{source_targets}
-use Rattle.sheets.specs.contracts.words.ConnectionPartialEq as of_connection
 use Rattle.sheets.specs.contracts.words.EndPartialEq as of_end
-use Rattle.networks.proofs.Found.{decides_any}
 use Rattle.networks.specs.Rows.{has_some}
 use Rattle.networks.specs.Ways.{SendsOn, Carries}
 
@@ -140,29 +137,9 @@ among_any x xs h = any_from (λ y. y ≡ x) x xs h refl
 pub any_among : {X : Type 0} (x : X) (xs : List X) → Any (λ y. y ≡ x) xs → Among x xs
 any_among x xs h = let r = any_one (λ y. y ≡ x) xs h in subst (λ y. Among y xs) r.1.1 r.1.0
 
-pub same_ends_true : (c d : Connection) → same_ends c d ≡ true → c ≡ d
-same_ends_true c d e =
-    let both = and_parts (same c.source d.source) (same c.target d.target) e in
-    let of : End → End → Connection = λ s t. record { source = s; target = t } in
-    ap (λ s. of s c.target) (same_true c.source d.source both.0) ∙ ap (of d.source) (same_true c.target d.target both.1)
-
-pub same_ends_same : (c d : Connection) → c ≡ d → same_ends c d ≡ true
-same_ends_same c d e = ap (same_ends c) (sym e) ∙ and_from (same c.source c.source) (same c.target c.target) (same_same c.source) (same_same c.target)
-
--- the derived comparisons are the same tests
+-- the derived comparison is the same test
 pub derived_end : (a b : End) → (of_end.TheImpl.ghosts).eq a b ≡ same a b
 derived_end (Outside p) (Outside q) = refl
 derived_end (Outside p) (Inside j g) = refl
 derived_end (Inside i f) (Outside q) = refl
 derived_end (Inside i f) (Inside j g) = refl
-
-derived : (c d : Connection) → (of_connection.TheImpl.ghosts).eq c d ≡ same_ends c d
-derived c d = ap (λ b. b && (of_end.TheImpl.ghosts).eq c.target d.target) (derived_end c.source d.source) ∙ ap (λ b. same c.source d.source && b) (derived_end c.target d.target)
-
--- what `contains` answers, by the derived comparison
-pub decides_among : (r : Bool) (x : Connection) (xs : List Connection) → IsAnyAnswer (λ y b. (of_connection.TheImpl.ghosts).eq y x ≡ b) xs r → Decides r (Among x xs)
-decides_among r x xs h =
-    let some = decides_any (λ y. (of_connection.TheImpl.ghosts).eq y x ≡ true) (λ y. (of_connection.TheImpl.ghosts).eq y x ≡ false) (λ y no yes'. clash (sym no ∙ yes')) r xs h in (
-      λ e. any_among x xs (any_weaker _ _ (λ y is. same_ends_true y x (sym (derived y x) ∙ is)) xs (some.0 e)),
-      λ h'. some.1 (any_weaker _ _ (λ y is. derived y x ∙ same_ends_same y x is) xs (among_any x xs h')),
-    )

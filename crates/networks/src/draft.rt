@@ -1,6 +1,6 @@
 // Lists that are being formed, in lent rows.
-ghost use Rattle.std.specs.Prelude.{◌≡◌, ◌+◌, ◌*◌, ◌<◌, ◌≤◌, [], ◌∷◌, ◌++◌, length, take};
-ghost use Rattle.costs.specs.Forming.{list, long, Reduces};
+ghost use Rattle.std.specs.Prelude.{◌≡◌, ◌+◌, ◌*◌, ◌≤◌, [], ◌∷◌, ◌++◌, length, take};
+ghost use Rattle.costs.specs.Forming.{Reduces};
 ghost use Rattle.costs.specs.Lists.{Sized};
 ghost use Rattle.networks.specs.Cards.{Joins, Times};
 ghost use Rattle.networks.specs.Forming.{Forms};
@@ -22,6 +22,7 @@ pub(crate) struct Draft<'a, M> {
 }
 
 impl<'a, M: Measure> Draft<'a, M> {
+    // What stands in the first row is its one entry.
     pub(crate) fn new(rows: &'a mut [Entry<M>]) -> Draft<'a, M>
         requires { 256 ≤ length rows.old }
     {

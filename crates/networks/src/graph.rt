@@ -94,29 +94,25 @@ impl<'a, M: Measure, B: Beneath<M>> Places<'a, M, B> {
         k % 8 < self.beneath.face(k / 8).inputs
     }
 
-    // The lowest place with such an entry.
+    // Whether k is the number of a place for which some entry counts 255 at a connected output.
+    fn is_full(&self, k: usize) -> bool
+        ensures { Decides result (FullPlace (net_of self.now.net (B.faces self.now.beneath.now)) (B.cards self.now.beneath.now) k) }
+    {
+        let entries = self.beneath.card(k / 8, k % 8);
+        let mut wires = self.net.connections.iter();
+        self.is_place(k) && wires.any(|c| is_sent(255, c.source, k / 8, entries))
+    }
+
+    // The lowest such place.
     pub(crate) fn full_place(&self) -> Option<usize>
         ensures { MatchOption result (NoneFull (net_of self.now.net (B.faces self.now.beneath.now)) (B.cards self.now.beneath.now)) (FullAt (net_of self.now.net (B.faces self.now.beneath.now)) (B.cards self.now.beneath.now)) }
     {
         (0..8 * self.net.instances).find(
             |k: &usize| -> bool
                 ensures { Decides result (FullPlace (net_of self.entry.now.net (B.faces self.entry.now.beneath.now)) (B.cards self.entry.now.beneath.now) k.now) }
-            { is_full(self, *k) },
+            { self.is_full(*k) },
         )
     }
-}
-
-// Whether k is the number of a place for which some entry counts 255 at a connected output.
-fn is_full<M: Measure, B: Beneath<M>>(places: &Places<'_, M, B>, k: usize) -> bool
-    ensures { Decides result (FullPlace (net_of places.now.net (B.faces places.now.beneath.now)) (B.cards places.now.beneath.now) k) }
-{
-    let entries = places.beneath.card(k / 8, k % 8);
-    places.is_place(k)
-        && places
-            .net
-            .connections
-            .iter()
-            .any(|c| is_sent(255, c.source, k / 8, entries))
 }
 
 impl<'a, M: Measure, B: Beneath<M>> Graph for Places<'a, M, B> {
@@ -133,12 +129,9 @@ impl<'a, M: Measure, B: Beneath<M>> Graph for Places<'a, M, B> {
     // An unmarked place to which place k leads; none where it leads to marked places only.
     fn barred(&self, k: usize, marks: &[bool]) -> Option<usize> {
         let entries = self.beneath.card(k / 8, k % 8);
-        for c in self.net.connections {
-            match open_way(*c, k / 8, entries, marks) {
-                Some(d) => return Some(d),
-                None => {}
-            }
-        }
-        None
+        self.net
+            .connections
+            .iter()
+            .find_map(|c| open_way(*c, k / 8, entries, marks))
     }
 }

@@ -1,8 +1,7 @@
 // Forming the list of a source and of a place: joined and reduced, one target and one count at a time.
 // Every function answers none where a reduced list is above 16.
-ghost use Rattle.std.specs.Prelude.{◌≡◌, ◌+◌, ◌*◌, ◌/◌, ◌%◌, ◌<◌, ◌≤◌, length};
+ghost use Rattle.std.specs.Prelude.{◌≡◌, ◌/◌, ◌%◌, ◌≤◌};
 ghost use Rattle.std.specs.List.{AllByRecursion};
-ghost use Rattle.costs.specs.declared.entry.Entry.{Entry};
 ghost use Rattle.networks.specs.Cards.{SourceList, Sends, EntryList, PlaceList};
 ghost use Rattle.networks.specs.Drafts.{drafted};
 ghost use Rattle.networks.specs.Forming.{Forms};

@@ -1,5 +1,5 @@
 // The checks of a composite against what lies beneath: every connection names something, and none is repeated.
-ghost use Rattle.std.specs.Prelude.{◌≡◌, ◌<◌, true, length, Some, Decides, MatchOption, MatchResult};
+ghost use Rattle.std.specs.Prelude.{◌≡◌, ◌<◌, length, Some, Decides, MatchOption, MatchResult};
 ghost use Rattle.std.specs.List.{slice_get};
 ghost use Rattle.sheets.specs.Sheets.{offsets_of};
 ghost use Rattle.sheets.specs.declared.words.Item.TheVariants.{Connection as OfConnection};
@@ -24,7 +24,8 @@ fn is_source<M: Measure, B: Beneath<M>>(sheet: &Checked<'_>, beneath: &B, s: End
     }
 }
 
-// Whether the end names an output to outside or a place.
+// Whether the end names an output to outside or a place. One function for this and `is_source` would take the two bounds as parameters, and name each
+// of them at both calls.
 fn is_target<M: Measure, B: Beneath<M>>(sheet: &Checked<'_>, beneath: &B, t: End) -> bool
     ensures { Decides result (Target (network_of (says sheet.now) (B.faces beneath.now)) t) }
 {
@@ -59,7 +60,7 @@ fn is_repeated(cs: &[Connection], k: usize) -> bool
     requires { k < length cs.now }
     ensures { Decides result (RepeatedBy cs.now k) }
 {
-    cs[..k].contains(&cs[k])
+    cs[..k].iter().any(|c| *c == cs[k])
 }
 
 // The first connection that stands among those before it.

@@ -1,11 +1,10 @@
 // The connections of a composite, read off its sheet once.
-ghost use Rattle.std.specs.Prelude.{◌≡◌, ◌<◌, ◌≤◌, length, take};
+ghost use Rattle.std.specs.Prelude.{◌≡◌, length, take};
 ghost use Rattle.networks.specs.Networks.{says, targets};
-ghost use Rattle.networks.specs.Refusals.{nth_connection};
 ghost use Rattle.networks.specs.Rows.{has_some};
 
 use sheets::opened::Checked;
-use sheets::words::{Connection, End, Item};
+use sheets::words::{Connection, End};
 use std::array;
 
 // Stands past the connections of a sheet.

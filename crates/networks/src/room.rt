@@ -1,5 +1,5 @@
-// The rows in which the lists of places are formed: the list so far, the list of a source so far, and a join of the two.
-ghost use Rattle.std.specs.Prelude.{◌≡◌, ◌+◌, ◌*◌, ◌<◌, ◌≤◌, [], ◌∷◌, length};
+// The rows in which the lists of places are formed.
+ghost use Rattle.std.specs.Prelude.{◌≡◌, ◌<◌, [], ◌∷◌, length};
 ghost use Rattle.sheets.specs.declared.words.End.TheVariants.{Outside};
 ghost use Rattle.networks.specs.Cards.{target_list, Joins, Times};
 ghost use Rattle.networks.specs.Drafts.{drafted};
@@ -25,6 +25,7 @@ fn arrival<M: Measure>(p: u8) -> Entry<M>
     }
 }
 
+// The list so far, the list of a source so far, and the rows for a join of two lists.
 #[derive(Drop)]
 pub(crate) struct Room<'a, M> {
     pub(crate) list: Draft<'a, M>,
@@ -42,7 +43,7 @@ impl<'a, M: Measure> Room<'a, M> {
         self.list.join_times::<R>(n, source.list(), self.joined)
     }
 
-    // Joins the source's list so far with one count at the outside output p, which is put in the last row of the joined ones, and reduces that.
+    // Joins the source's list so far with one count at the outside output p, which is put in the last row for a join, and reduces that.
     fn follow_outside<R: Reducer<M>>(&mut self, p: u8) -> Option<()>
         requires output { p < 8 }
         ensures came { Forms (Joins M.Measure.ops R.gives (drafted self.old.source) (target_list M.Measure.ops (λ i f. []) (Outside p))) (drafted self.new.source) result }

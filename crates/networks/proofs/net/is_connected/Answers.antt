@@ -14,6 +14,6 @@ returns c =
     let cs = c.args.cs.now in
     let From : Connection → Type 0 = λ a. a.source ≡ c.args.s in
     same_from_decides c.any.result (has_some (targets cs c.args.s))
-    (decides_any From (λ a. From a → ⊥) (λ a no yes'. no yes') c.any.result cs
+    (decides_any From c.any.result cs
     (cases_from_any _ _ c.any.result From (λ a. From a → ⊥) c.any.ensures.ran (YieldsList-from_slice cs cc) (λ x q k. search (rules, tests)) (λ x q k. search (rules, tests))))
     (some_targets cs c.args.s)
