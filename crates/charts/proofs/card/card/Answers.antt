@@ -1,5 +1,5 @@
 -- The card in the caller's rows, with what is shown of it. Assumes nothing.
-use Rattle.std.proofs.Common.{◌≡◌, ◌+◌, ◌*◌, get_or, sym, refl, ap, ◌∙◌, subst, arith}
+use Rattle.std.proofs.Common.{◌≡◌, ◌+◌, ◌*◌, get_or, sym, refl, ◌∙◌, subst, arith}
 use Rattle.std.proofs.lemmas.Result.{err_from_is_err_and}
 use Rattle.costs.specs.Entries.{entry_ops}
 use Rattle.sheets.proofs.Forms.{form_of}
@@ -10,14 +10,6 @@ use Rattle.charts.proofs.Promises.{shown, exact, refusal_exact}
 use Rattle.costs.proofs.Interface.{same_part, same_at}
 use Rattle.charts.proofs.Segments.{lists_same}
 use Rattle.charts.proofs.card.card.Goals as goal
-
-pub work_card-requires : goal.work_card-requires
-work_card-requires g c =
-    let z = (entry_ops g.M.Measure.ops).zero in
-    (omega arith, (omega arith, (c.requires.block, (c.new-lists.ensures.none, (c.new-card.ensures.none, λ q. ap (λ l. get_or l q z) c.new-card.ensures.rows ∙ c.blank.ensures q)))))
-
-pub copy_rows-requires : goal.copy_rows-requires
-copy_rows-requires g c = (omega (arith, c.work_card.new.card.all, c.in_ok-work_card.ensures.lent.room), c.requires.out)
 
 pub returns-in_err-work_card : goal.returns-in_err-work_card
 returns-in_err-work_card g c =
