@@ -23,15 +23,15 @@ use sheets::words::Kind;
 use std::marker::PhantomData;
 
 impl<'a, M: Measure> Chart<'a, M> {
-    // Works the card of a basic block: its states in working order, then its events.
+    // Works the card of a basic block: its states in working order, with their lists in the rows, then its events.
     fn work_basic<R: Reducer<M>>(
         &self,
-        lists: &mut Lists<'_, M, 32>,
+        rows: &mut [Entry<M>],
         room: &mut Room<'_, M>,
         card: &mut Lists<'_, M, 8>,
     ) -> Result<(), Refusal>
         requires kind { (says self.now.sheet.now).face.kind ≡ Basic }
-        requires worked { (t : ℕ) → slice_index lists.old.lens t ≡ 0 }
+        requires rows { 512 ≤ length rows.old }
         requires fresh { (e : ℕ) → slice_index card.old.lens e ≡ 0 }
         requires blank { (q : ℕ) → slice_index_or card.old.rows.now q (entry_ops M.Measure.ops).zero ≡ (entry_ops M.Measure.ops).zero }
         ensures { MatchResult result (λ _. Carded M.Measure.ops M.Measure.meant R.gives (says self.now.sheet.now) Basic card.new.rows.now card.new.lens) (RefusedBy M.Measure.ops M.Measure.meant R.gives (says self.now.sheet.now) Basic) }
@@ -39,26 +39,26 @@ impl<'a, M: Measure> Chart<'a, M> {
         let mut marks = [false; 32];
         let mut order = [0; 32];
         let count = self.plan(&mut marks, &mut order)?;
-        self.work_states::<R>(&order[..count], lists, room)?;
-        self.work_events::<R>(lists, room, card)
+        let mut lists = Lists::new(rows);
+        self.work_states::<R>(&order[..count], &mut lists, room)?;
+        self.work_events::<R>(&lists, room, card)
     }
 
-    // Works the card of a block, by its kind; no list is worked yet, and the rows of the card are blank.
+    // Works the card of a block, by its kind; no list of the card is worked yet, and its rows are blank.
     fn work_card<R: Reducer<M>>(
         &self,
-        lists: &mut Lists<'_, M, 32>,
+        rows: &mut [Entry<M>],
         room: &mut Room<'_, M>,
         card: &mut Lists<'_, M, 8>,
     ) -> Result<(), Refusal>
-        requires block { (says self.now.sheet.now).face.kind ≢ Composite }
-        requires worked { (t : ℕ) → slice_index lists.old.lens t ≡ 0 }
+        requires rows { 512 ≤ length rows.old }
         requires fresh { (e : ℕ) → slice_index card.old.lens e ≡ 0 }
         requires blank { (q : ℕ) → slice_index_or card.old.rows.now q (entry_ops M.Measure.ops).zero ≡ (entry_ops M.Measure.ops).zero }
         ensures { MatchResult result (λ _. Carded M.Measure.ops M.Measure.meant R.gives (says self.now.sheet.now) (says self.now.sheet.now).face.kind card.new.rows.now card.new.lens) (RefusedBy M.Measure.ops M.Measure.meant R.gives (says self.now.sheet.now) (says self.now.sheet.now).face.kind) }
     {
         match self.sheet.interface().kind {
-            Kind::Basic => self.work_basic::<R>(lists, room, card),
-            _ => self.work_events::<R>(lists, room, card),
+            Kind::Basic => self.work_basic::<R>(rows, room, card),
+            _ => self.work_events::<R>(&Lists::new(rows), room, card),
         }
     }
 }
@@ -91,9 +91,8 @@ pub fn card<M: Measure, R: Reducer<M>>(
     let (lists, rest) = rows.split_at_mut(512);
     let (card, rest) = rest.split_at_mut(128);
     blank(card);
-    let mut lists = Lists::new(lists);
     let mut card = Lists::new(card);
-    chart.work_card::<R>(&mut lists, &mut Room::new(rest), &mut card)?;
+    chart.work_card::<R>(lists, &mut Room::new(rest), &mut card)?;
     let Lists { rows, lens } = card;
     copy_rows(rows, 128, out);
     Ok(lens)

@@ -1,6 +1,7 @@
 // The chart of a block as a graph: its states, and its event-free transitions.
-ghost use Rattle.std.specs.Prelude.{◌≡◌, ℕ, ◌<◌, ◌≤◌, true, false, length, Decides, MatchOption, slice_index_or};
+ghost use Rattle.std.specs.Prelude.{◌≡◌, ℕ, ◌<◌, ◌≤◌, ◌≢◌, true, false, length, Decides, MatchOption, slice_index_or};
 ghost use Rattle.order.specs.Order.{Marked, Ready, Barred, Below};
+ghost use Rattle.sheets.specs.declared.words.Kind.TheVariants.{Composite};
 ghost use Rattle.charts.specs.Charts.{no_event, is_free, no_transition, Named, Named-prop, State, Leads};
 ghost use Rattle.charts.specs.Naming.{says};
 
@@ -18,6 +19,7 @@ pub(crate) struct Chart<'a, M: Measure> {
     pub(crate) measure: PhantomData<M>,
     ghost width: { sheet.now.width.bytes ≡ M.Measure.wide },
     ghost named: { Named (says sheet.now) } by { Named-prop (says sheet.now) },
+    ghost block: { (says sheet.now).face.kind ≢ Composite },
 }
 
 pub(crate) fn is_free(transition: Transition, s: usize) -> bool

@@ -1,10 +1,10 @@
 // The lists of all states, in working order, and then of all events, ascending.
-ghost use Rattle.std.specs.Prelude.{◌≡◌, ℕ, ◌+◌, ◌*◌, ◌<◌, ◌≤◌, List, [], length, take, IfErr, MatchResult, ◌≢◌, slice_index, slice_index_or};
+ghost use Rattle.std.specs.Prelude.{◌≡◌, ℕ, ◌+◌, ◌*◌, ◌<◌, ◌≤◌, List, [], length, take, IfErr, MatchResult, slice_index, slice_index_or};
 ghost use Rattle.costs.specs.Entries.{entry_ops};
 ghost use Rattle.costs.specs.Lent.{list_at, Padded};
 ghost use Rattle.order.specs.Order.{Order, Complete, Unworkable};
 ghost use Rattle.order.specs.Ways.{Endless};
-ghost use Rattle.sheets.specs.declared.words.Kind.TheVariants.{Basic, Composite};
+ghost use Rattle.sheets.specs.declared.words.Kind.TheVariants.{Basic};
 ghost use Rattle.charts.specs.Forming.{made, stops};
 ghost use Rattle.charts.specs.Charts.{State, Leads};
 ghost use Rattle.charts.specs.Cards.{EventBy, Events, BasicCard};
@@ -61,7 +61,6 @@ impl<'a, M: Measure> Chart<'a, M> {
         lists: &Lists<'_, M, 32>,
         room: &'r mut Room<'_, M>,
     ) -> Option<&'r [Entry<M>]>
-        requires block { (says self.now.sheet.now).face.kind ≢ Composite }
         requires event { f < (says self.now.sheet.now).face.inputs }
         requires worked { (says self.now.sheet.now).face.kind ≡ Basic → (s : ℕ) → State (says self.now.sheet.now) s → 1 ≤ slice_index lists.now.lens s }
         ensures { Formed (EventBy M.Measure.ops M.Measure.meant R.gives (says self.now.sheet.now) (says self.now.sheet.now).face.kind (list_at lists.now.rows.now lists.now.lens) f) result }
@@ -79,7 +78,6 @@ impl<'a, M: Measure> Chart<'a, M> {
         room: &mut Room<'_, M>,
         card: &mut Lists<'_, M, 8>,
     ) -> Result<(), Refusal>
-        requires block { (says self.now.sheet.now).face.kind ≢ Composite }
         requires worked { (says self.now.sheet.now).face.kind ≡ Basic → (s : ℕ) → State (says self.now.sheet.now) s → 1 ≤ slice_index lists.now.lens s }
         requires fresh { (e : ℕ) → slice_index card.old.lens e ≡ 0 }
         requires blank { (q : ℕ) → slice_index_or card.old.rows.now q (entry_ops M.Measure.ops).zero ≡ (entry_ops M.Measure.ops).zero }
