@@ -15,7 +15,7 @@ use crate::graph::Chart;
 use crate::refusal::Refusal;
 use crate::room::Room;
 use costs::entry::Entry;
-use costs::lists::{Lists, blank, copy_rows};
+use costs::lists::{Lists, copy_rows};
 use costs::measure::Measure;
 use costs::reducer::Reducer;
 use sheets::opened::Checked;
@@ -28,13 +28,12 @@ impl<'a, M: Measure> Chart<'a, M> {
         &self,
         rows: &mut [Entry<M>],
         room: &mut Room<'_, M>,
-        card: &mut Lists<'_, M, 8>,
-    ) -> Result<(), Refusal>
+        card: &mut [Entry<M>],
+    ) -> Result<[usize; 8], Refusal>
         requires kind { (says self.now.sheet.now).face.kind ≡ Basic }
         requires rows { 512 ≤ length rows.old }
-        requires fresh { (e : ℕ) → slice_index card.old.lens e ≡ 0 }
-        requires blank { (q : ℕ) → slice_index_or card.old.rows.now q (entry_ops M.Measure.ops).zero ≡ (entry_ops M.Measure.ops).zero }
-        ensures { MatchResult result (λ _. Carded M.Measure.ops M.Measure.meant R.gives (says self.now.sheet.now) Basic card.new.rows.now card.new.lens) (RefusedBy M.Measure.ops M.Measure.meant R.gives (says self.now.sheet.now) Basic) }
+        requires card { 128 ≤ length card.old }
+        ensures { MatchResult result (Carded M.Measure.ops M.Measure.meant R.gives (says self.now.sheet.now) Basic card.new) (RefusedBy M.Measure.ops M.Measure.meant R.gives (says self.now.sheet.now) Basic) }
     {
         let mut marks = [false; 32];
         let mut order = [0; 32];
@@ -44,21 +43,21 @@ impl<'a, M: Measure> Chart<'a, M> {
         self.work_events::<R>(&lists, room, card)
     }
 
-    // Works the card of a block, by its kind; no list of the card is worked yet, and its rows are blank.
+    // Works the card of a block, by its kind.
     fn work_card<R: Reducer<M>>(
         &self,
         rows: &mut [Entry<M>],
-        room: &mut Room<'_, M>,
-        card: &mut Lists<'_, M, 8>,
-    ) -> Result<(), Refusal>
-        requires rows { 512 ≤ length rows.old }
-        requires fresh { (e : ℕ) → slice_index card.old.lens e ≡ 0 }
-        requires blank { (q : ℕ) → slice_index_or card.old.rows.now q (entry_ops M.Measure.ops).zero ≡ (entry_ops M.Measure.ops).zero }
-        ensures { MatchResult result (λ _. Carded M.Measure.ops M.Measure.meant R.gives (says self.now.sheet.now) (says self.now.sheet.now).face.kind card.new.rows.now card.new.lens) (RefusedBy M.Measure.ops M.Measure.meant R.gives (says self.now.sheet.now) (says self.now.sheet.now).face.kind) }
+        card: &mut [Entry<M>],
+    ) -> Result<[usize; 8], Refusal>
+        requires rows { 2561 ≤ length rows.old }
+        requires card { 128 ≤ length card.old }
+        ensures { MatchResult result (Carded M.Measure.ops M.Measure.meant R.gives (says self.now.sheet.now) (says self.now.sheet.now).face.kind card.new) (RefusedBy M.Measure.ops M.Measure.meant R.gives (says self.now.sheet.now) (says self.now.sheet.now).face.kind) }
     {
+        let (lists, rest) = rows.split_at_mut(512);
+        let mut room = Room::new(rest);
         match self.sheet.interface().kind {
-            Kind::Basic => self.work_basic::<R>(rows, room, card),
-            _ => self.work_events::<R>(&Lists::new(rows), room, card),
+            Kind::Basic => self.work_basic::<R>(lists, &mut room, card),
+            _ => self.work_events::<R>(&Lists::new(lists), &mut room, card),
         }
     }
 }
@@ -88,12 +87,8 @@ pub fn card<M: Measure, R: Reducer<M>>(
         sheet: &*sheet,
         measure: PhantomData,
     };
-    let (lists, rest) = rows.split_at_mut(512);
-    let (card, rest) = rest.split_at_mut(128);
-    blank(card);
-    let mut card = Lists::new(card);
-    chart.work_card::<R>(lists, &mut Room::new(rest), &mut card)?;
-    let Lists { rows, lens } = card;
-    copy_rows(rows, 128, out);
-    Ok(lens)
+    let (card, rest) = rows.split_at_mut(128);
+    let ends = chart.work_card::<R>(rest, card)?;
+    copy_rows(card, 128, out);
+    Ok(ends)
 }

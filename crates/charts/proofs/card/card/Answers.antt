@@ -11,11 +11,11 @@ use Rattle.costs.proofs.Interface.{same_part, same_at}
 use Rattle.charts.proofs.Segments.{lists_same}
 use Rattle.charts.proofs.card.card.Goals as goal
 
-pub returns-in_err-work_card : goal.returns-in_err-work_card
-returns-in_err-work_card g c =
+pub returns-in_err-ends : goal.returns-in_err-ends
+returns-in_err-ends g c =
     let p = err_from_is_err_and c.from_residual.result c.from_residual.ensures.1 in
     let S = says c.args.sheet.now in
-    let h = c.in_err-work_card.ensures in
+    let h = c.in_err-ends.ensures in
     rw (p.1, p.2) (record { answer = h; rows = refl; lengths = tt; whole = tt; covers = tt; attained = tt; exact = refusal_exact g.M.Measure.ops g.M.Measure.meant g.R.Reducer.gives S _ h })
 
 pub returns : goal.returns
@@ -26,9 +26,9 @@ returns g c =
     let meant = g.M.Measure.meant in
     let gives = g.R.Reducer.gives in
     let form = form_of sheet.width.bytes sheet.bytes.now sheet.right in
-    let done = c.in_ok-work_card.ensures in
-    let ends = c.work_card.new.card.lens in
-    let rows = c.work_card.new.card.rows.now in
+    let done = c.in_ok-ends.ensures in
+    let ends = c.in_ok-ends.ends in
+    let rows = c.work_card.new.card in
     let out = c.copy_rows.new.out in
     let n = S.face.inputs in
     let same : lists_at rows ends n 0 ≡ lists_at out ends n 0 =
