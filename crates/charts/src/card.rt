@@ -1,10 +1,10 @@
 // The card of a basic or a service block, worked in the rows lent.
-ghost use Rattle.std.specs.Prelude.{◌≡◌, ℕ, ◌+◌, ◌*◌, ◌<◌, ◌≤◌, List, [], length, drop, IfOk, MatchResult, ◌≢◌, slice_index, slice_index_or};
+ghost use Rattle.std.specs.Prelude.{◌≡◌, ◌*◌, ◌<◌, ◌≤◌, length, drop, IfOk, MatchResult, ◌≢◌};
 ghost use Rattle.costs.specs.Entries.{entry_ops};
-ghost use Rattle.costs.specs.Lists.{Selects, Computes};
+ghost use Rattle.costs.specs.Lists.{Selects};
 ghost use Rattle.costs.specs.declared.entry.Entry.{Entry};
-ghost use Rattle.sheets.specs.declared.words.Kind.TheVariants.{Basic, Service, Composite};
-ghost use Rattle.charts.specs.Forming.{made, stops};
+ghost use Rattle.sheets.specs.declared.words.Kind.TheVariants.{Basic, Composite};
+ghost use Rattle.charts.specs.Forming.{made};
 ghost use Rattle.charts.specs.Charts.{Named};
 ghost use Rattle.charts.specs.Naming.{says};
 ghost use Rattle.charts.specs.Refusals.{CardBy, RefusedBy, lists_at};

@@ -1,5 +1,5 @@
 // The lists of one state and of one event, formed in lent rows.
-ghost use Rattle.std.specs.Prelude.{◌≡◌, ℕ, ◌+◌, ◌*◌, ◌<◌, ◌≤◌, Bool, List, [], length, take, slice_index};
+ghost use Rattle.std.specs.Prelude.{◌≡◌, ℕ, ◌+◌, ◌<◌, ◌≤◌, Bool, length, take, slice_index};
 ghost use Rattle.std.specs.List.{flat_map};
 ghost use Rattle.costs.specs.Forming.{Reduces};
 ghost use Rattle.costs.specs.Lent.{list_at};
@@ -7,7 +7,7 @@ ghost use Rattle.sheets.specs.Form.{served};
 ghost use Rattle.sheets.specs.Shown.{shown_entry};
 ghost use Rattle.sheets.specs.declared.words.Transition.{Transition};
 ghost use Rattle.sheets.specs.declared.words.Kind.TheVariants.{Service};
-ghost use Rattle.charts.specs.Charts.{is_guarded, dests, frees, guarded, state_cost, served_entry, served_entries, no_entry, State, Leads};
+ghost use Rattle.charts.specs.Charts.{is_guarded, dests, frees, guarded, state_cost, served_entry, served_entries, State, Leads};
 ghost use Rattle.charts.specs.Cards.{StateList, EventList};
 ghost use Rattle.charts.specs.Naming.{says};
 ghost use Rattle.charts.specs.Rows.{Tests, Formed};

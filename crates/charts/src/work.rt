@@ -1,15 +1,15 @@
 // The lists of all states, in working order, and then of all events, ascending.
-ghost use Rattle.std.specs.Prelude.{◌≡◌, ℕ, ◌+◌, ◌*◌, ◌<◌, ◌≤◌, List, [], length, take, IfErr, MatchResult, slice_index, slice_index_or};
+ghost use Rattle.std.specs.Prelude.{◌≡◌, ℕ, ◌+◌, ◌*◌, ◌<◌, ◌≤◌, [], length, take, IfErr, MatchResult, slice_index};
 ghost use Rattle.costs.specs.Entries.{entry_ops};
-ghost use Rattle.costs.specs.Lent.{list_at, Padded};
+ghost use Rattle.costs.specs.Lent.{list_at};
 ghost use Rattle.order.specs.Order.{Order, Complete, Unworkable};
 ghost use Rattle.order.specs.Ways.{Endless};
 ghost use Rattle.sheets.specs.declared.words.Kind.TheVariants.{Basic};
-ghost use Rattle.charts.specs.Forming.{made, stops};
+ghost use Rattle.charts.specs.Forming.{stops};
 ghost use Rattle.charts.specs.Charts.{State, Leads};
 ghost use Rattle.charts.specs.Cards.{EventBy, Events, BasicCard};
 ghost use Rattle.charts.specs.Naming.{says};
-ghost use Rattle.charts.specs.Refusals.{CircleAt, TooLongAt, lists_at};
+ghost use Rattle.charts.specs.Refusals.{CircleAt, TooLongAt};
 ghost use Rattle.charts.specs.Rows.{Formed, Working, Evented};
 
 use crate::graph::Chart;
