@@ -1,5 +1,5 @@
 -- The three kinds of block are apart. Assumes nothing.
-use Rattle.std.proofs.Common.{◌≡◌, ℕ, List, [], refl, arith}
+use Rattle.std.proofs.Common.{◌≡◌, ℕ, List, [], refl}
 use Rattle.costs.specs.Amounts.{Amounts}
 use Rattle.costs.specs.declared.entry.Entry.{Entry}
 use Rattle.sheets.specs.Sheets.{Sheet}
@@ -8,9 +8,6 @@ use Rattle.sheets.specs.declared.words.Kind.TheVariants.{Basic, Service, Composi
 use Rattle.charts.specs.Forming.{Outcome}
 use Rattle.charts.specs.Cards.{EventBy, Events}
 use Rattle.charts.specs.Refusals.{CardBy}
-
-pub basic_alone : Basic ≡ Composite → ⊥
-basic_alone e = let z : ◌≡◌ {A = ℕ} 0 1 = cc in omega arith
 
 -- what is neither basic nor composite is a service block
 pub service : (kind : Kind) → (kind ≡ Basic → ⊥) → (kind ≡ Composite → ⊥) → kind ≡ Service

@@ -1,8 +1,8 @@
 -- Where the transitions that pass a test lead. Assumes nothing.
-use Rattle.std.proofs.Common.{◌≡◌, ℕ, zero, suc, ◌+◌, ◌*◌, ◌<◌, ◌≤◌, Bool, true, false, eqb, ◌⊎◌, List, [], ◌∷◌, ◌++◌, length, get_or, drop, Some, None, Option, sym, refl, ap, ◌∙◌, subst, inl, inr, ⊎_elim, arith}
+use Rattle.std.proofs.Common.{◌≡◌, ℕ, zero, suc, ◌*◌, ◌<◌, ◌≤◌, Bool, true, eqb, List, [], ◌∷◌, ◌++◌, length, get_or, Some, None, Option, sym, refl, ap, ◌∙◌, subst, inl, inr, ⊎_elim, arith}
 use borrow.Author.Tests.{clash}
 use Rattle.std.specs.List.{flat_map, AllByRecursion}
-use Rattle.std.proofs.lemmas.List.{length-append, at_drop_more}
+use Rattle.std.proofs.lemmas.List.{length-append}
 use Rattle.std.proofs.lemmas.Bool.{cond-true, cond-false, cases_Bool, cond_both, eqb-true, eq-eqb, and_parts, and_from}
 use Rattle.costs.specs.Lists.{Among, Sized}
 use Rattle.sheets.specs.declared.words.Transition.{Transition}
@@ -74,19 +74,3 @@ pub among_get_or : {X : Type 0} (xs : List X) (i : ℕ) (x : X) → i < length x
 among_get_or [] i x within = absurd (omega arith)
 among_get_or (y ∷ ys) zero x within = inl refl
 among_get_or (y ∷ ys) (suc i) x within = inr (among_get_or ys i x (omega arith))
-
--- the destinations from transition i on: with its own where it passes
-pub dests_hit : (p : Transition → Bool) (ts : List Transition) (i : ℕ) (t : Transition) → i < length ts → p (get_or ts i t) ≡ true → dests p (drop i ts) ≡ (get_or ts i t).destination ∷ dests p (drop (i + 1) ts)
-dests_hit p ts i t within hit = at_drop_more (dests p) ts i t within ∙ cond-true (p (get_or ts i t)) ((get_or ts i t).destination ∷ dests p (drop (i + 1) ts)) (dests p (drop (i + 1) ts)) hit
-
-pub dests_miss : (p : Transition → Bool) (ts : List Transition) (i : ℕ) (t : Transition) → i < length ts → p (get_or ts i t) ≡ false → dests p (drop i ts) ≡ dests p (drop (i + 1) ts)
-dests_miss p ts i t within miss = at_drop_more (dests p) ts i t within ∙ cond-false (p (get_or ts i t)) ((get_or ts i t).destination ∷ dests p (drop (i + 1) ts)) (dests p (drop (i + 1) ts)) miss
-
--- a destination from transition i on is its own or a later one's
-pub dests_left : (p : Transition → Bool) (ts : List Transition) (i : ℕ) (t : Transition) (d : ℕ) → i < length ts → Among d (dests p (drop i ts))
-    → ((p (get_or ts i t) ≡ true) × ((get_or ts i t).destination ≡ d)) ⊎ Among d (dests p (drop (i + 1) ts))
-dests_left p ts i t d within h =
-    ⊎_elim
-    (λ hit. ⊎_elim (λ e. inl (hit, e)) inr (subst (Among d) (dests_hit p ts i t within hit) h))
-    (λ miss. inr (subst (Among d) (dests_miss p ts i t within miss) h))
-    (cases_Bool (p (get_or ts i t)))

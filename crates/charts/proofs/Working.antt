@@ -50,21 +50,6 @@ module _ {X : Type 0} (P : ℕ → Formation X → Type 0) (all e : ℕ) (z : X)
             (after_on (P e) (256 + e) (λ ys. Events P (all - (e + 1)) (e + 1) (lists_at rows lens e 0 ++ ys ∷ [])) xs p o (subst (λ l. Events P (all - (e + 1)) (e + 1) l o) same h)));
       }
 
-pub listing_all : {X : Type 0} (P : ℕ → Formation X → Type 0) (all e : ℕ) (z : X) (rows : List X) (lens : List ℕ) → Listing P all e z rows lens → e ≡ all → Events P all 0 [] (made (lists_at rows lens all 0))
-listing_all P all e z rows lens was is =
-    let none : all - e ≡ 0 = omega arith in
-    was.more (made (lists_at rows lens all 0)) (subst (λ n. Events P n e (lists_at rows lens e 0) (made (lists_at rows lens all 0))) (sym none) (ap (λ k. made (lists_at rows lens k 0)) (sym is)))
-
-pub listing_none : {X : Type 0} (P : ℕ → Formation X → Type 0) (all : ℕ) (z : X) (rows : List X) (lens : List ℕ) → 16 * length lens ≤ length rows → ((d : ℕ) → get_or lens d 0 ≡ 0) → ((q : ℕ) → get_or rows q z ≡ z) → Listing P all 0 z rows lens
-listing_none P all z rows lens room fresh blank =
-    let whole : all - 0 ≡ all = omega arith in
-    record {
-      lent = record { room = room; short = λ k. omega (arith, fresh k) };
-      padded = λ k j past low. blank (16 * k + j);
-      unused = λ d h. fresh d;
-      more = λ o h. subst (λ n. Events P n 0 [] o) whole h;
-    }
-
 module _ {M : Type 0} (ops : Amounts M) (meant : List ℕ → M) (gives : List (Entry M) → List (Entry M) → Type 0) (sheet : Sheet) where
   -- the lists of events over tables that agree
   pub event_same : (T V : ℕ → List (Entry M)) → ((t : ℕ) → T t ≡ V t) → (ds : List ℕ) (o : Formation (Entry M)) → EventList ops gives T ds o → EventList ops gives V ds o

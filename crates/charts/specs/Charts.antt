@@ -2,7 +2,6 @@
 use Rattle.std.specs.Prelude.{ℕ, ◌<◌, Bool, true, false, cond, ◌&&◌, List, [], ◌∷◌, length, Some, None, Option, ◌==◌, slice_index_or}
 use Rattle.std.specs.Coded.{Unit-prop, le_prop}
 use Rattle.std.specs.List.{AllByRecursion}
-use Rattle.std.proofs.Props.{props}
 use Rattle.costs.specs.Amounts.{Amounts}
 use Rattle.costs.specs.Entries.{counts_of, no_counts, one_count, entry_ops}
 use Rattle.costs.specs.Lists.{Among}
@@ -122,10 +121,7 @@ pub record Named (sheet : Sheet) : Type 0 where
   pub transitions : AllByRecursion (NamedTransition sheet) sheet.transitions
   pub entries : AllByRecursion (NamedEntry sheet) sheet.entries
 
--- each of these facts has one proof at most, so that a struct may keep it
+-- the fact has one proof at most, so that a struct may keep what is made of it
 pub Within-prop : (n : ℕ) (o : Option ℕ) → IsProp (Within n o)
 Within-prop n None = Unit-prop
 Within-prop n (Some k) = le_prop
-
-pub Named-prop : (sheet : Sheet) → IsProp (Named sheet)
-Named-prop sheet = Prim.hlevel (props, Within-prop)

@@ -52,12 +52,13 @@ RefusedBy ops meant gives sheet kind (Unnamed at) = ⊥
 RefusedBy ops meant gives sheet kind (Circle state) = CircleBy sheet kind state × Endless (Leads sheet) state
 RefusedBy ops meant gives sheet kind (TooLong at) = CardBy ops meant gives sheet kind (stops at)
 
--- refusal 8 at a state of which P holds, and refusal 10 at a place of which it holds
+-- refusal 8, at a state of which P holds
 abbrev pub CircleAt : (ℕ → Type 0) → Refusal → Type 0
 CircleAt P (Unnamed at) = ⊥
 CircleAt P (Circle state) = P state
 CircleAt P (TooLong at) = ⊥
 
+-- refusal 10, at a place of which P holds
 abbrev pub TooLongAt : (ℕ → Type 0) → Refusal → Type 0
 TooLongAt P (Unnamed at) = ⊥
 TooLongAt P (Circle state) = ⊥

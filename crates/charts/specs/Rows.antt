@@ -56,3 +56,10 @@ pub record Listing {X : Type 0} (P : ℕ → Formation X → Type 0) (all e : �
   pub padded : Padded zero rows lens
   pub unused : (d : ℕ) → e ≤ d → slice_index lens d ≡ 0
   pub more : (o : Outcome X) → Events P (all - e) e (lists_at rows lens e 0) o → Events P all 0 [] o
+
+-- the lists of all events in their rows, x past each, with their lengths; nothing for what is no input
+pub record Evented {X : Type 0} (P : ℕ → Formation X → Type 0) (inputs : ℕ) (x : X) (rows : List X) (lens : List ℕ) : Type 0 where
+  pub events : Events P inputs 0 [] (made (lists_at rows lens inputs 0))
+  pub lent : Lent rows lens
+  pub padded : Padded x rows lens
+  pub unused : (e : ℕ) → inputs ≤ e → slice_index lens e ≡ 0

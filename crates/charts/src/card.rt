@@ -1,10 +1,10 @@
 // The card of a basic or a service block, worked in the rows lent.
-ghost use Rattle.std.specs.Prelude.{◌≡◌, ℕ, ◌+◌, ◌*◌, ◌<◌, ◌≤◌, List, [], length, drop, IfOk, MatchResult, ◌≢◌, slice_index, slice_index_or};
+ghost use Rattle.std.specs.Prelude.{◌≡◌, ◌*◌, ◌<◌, ◌≤◌, length, drop, IfOk, MatchResult, ◌≢◌};
 ghost use Rattle.costs.specs.Entries.{entry_ops};
-ghost use Rattle.costs.specs.Lists.{Selects, Computes};
+ghost use Rattle.costs.specs.Lists.{Selects};
 ghost use Rattle.costs.specs.declared.entry.Entry.{Entry};
-ghost use Rattle.sheets.specs.declared.words.Kind.TheVariants.{Basic, Service, Composite};
-ghost use Rattle.charts.specs.Forming.{made, stops};
+ghost use Rattle.sheets.specs.declared.words.Kind.TheVariants.{Basic, Composite};
+ghost use Rattle.charts.specs.Forming.{made};
 ghost use Rattle.charts.specs.Charts.{Named};
 ghost use Rattle.charts.specs.Naming.{says};
 ghost use Rattle.charts.specs.Refusals.{CardBy, RefusedBy, lists_at};
@@ -15,7 +15,7 @@ use crate::graph::Chart;
 use crate::refusal::Refusal;
 use crate::room::Room;
 use costs::entry::Entry;
-use costs::lists::{Lists, blank, copy_rows};
+use costs::lists::{Lists, copy_rows};
 use costs::measure::Measure;
 use costs::reducer::Reducer;
 use sheets::opened::Checked;
@@ -23,42 +23,41 @@ use sheets::words::Kind;
 use std::marker::PhantomData;
 
 impl<'a, M: Measure> Chart<'a, M> {
-    // Works the card of a basic block: its states in working order, then its events.
+    // Works the card of a basic block: its states in working order, with their lists in the rows, then its events.
     fn work_basic<R: Reducer<M>>(
         &self,
-        lists: &mut Lists<'_, M, 32>,
+        rows: &mut [Entry<M>],
         room: &mut Room<'_, M>,
-        card: &mut Lists<'_, M, 8>,
-    ) -> Result<(), Refusal>
+        card: &mut [Entry<M>],
+    ) -> Result<[usize; 8], Refusal>
         requires kind { (says self.now.sheet.now).face.kind ≡ Basic }
-        requires worked { (t : ℕ) → slice_index lists.old.lens t ≡ 0 }
-        requires fresh { (e : ℕ) → slice_index card.old.lens e ≡ 0 }
-        requires blank { (q : ℕ) → slice_index_or card.old.rows.now q (entry_ops M.Measure.ops).zero ≡ (entry_ops M.Measure.ops).zero }
-        ensures { MatchResult result (λ _. Carded M.Measure.ops M.Measure.meant R.gives (says self.now.sheet.now) Basic card.new.rows.now card.new.lens) (RefusedBy M.Measure.ops M.Measure.meant R.gives (says self.now.sheet.now) Basic) }
+        requires rows { 512 ≤ length rows.old }
+        requires card { 128 ≤ length card.old }
+        ensures { MatchResult result (Carded M.Measure.ops M.Measure.meant R.gives (says self.now.sheet.now) Basic card.new) (RefusedBy M.Measure.ops M.Measure.meant R.gives (says self.now.sheet.now) Basic) }
     {
         let mut marks = [false; 32];
         let mut order = [0; 32];
         let count = self.plan(&mut marks, &mut order)?;
-        self.work_states::<R>(&order[..count], lists, room)?;
-        self.work_events::<R>(lists, room, card)
+        let mut lists = Lists::new(rows);
+        self.work_states::<R>(&order[..count], &mut lists, room)?;
+        self.work_events::<R>(&lists, room, card)
     }
 
-    // Works the card of a block, by its kind; no list is worked yet, and the rows of the card are blank.
+    // Works the card of a block, by its kind.
     fn work_card<R: Reducer<M>>(
         &self,
-        lists: &mut Lists<'_, M, 32>,
-        room: &mut Room<'_, M>,
-        card: &mut Lists<'_, M, 8>,
-    ) -> Result<(), Refusal>
-        requires block { (says self.now.sheet.now).face.kind ≢ Composite }
-        requires worked { (t : ℕ) → slice_index lists.old.lens t ≡ 0 }
-        requires fresh { (e : ℕ) → slice_index card.old.lens e ≡ 0 }
-        requires blank { (q : ℕ) → slice_index_or card.old.rows.now q (entry_ops M.Measure.ops).zero ≡ (entry_ops M.Measure.ops).zero }
-        ensures { MatchResult result (λ _. Carded M.Measure.ops M.Measure.meant R.gives (says self.now.sheet.now) (says self.now.sheet.now).face.kind card.new.rows.now card.new.lens) (RefusedBy M.Measure.ops M.Measure.meant R.gives (says self.now.sheet.now) (says self.now.sheet.now).face.kind) }
+        rows: &mut [Entry<M>],
+        card: &mut [Entry<M>],
+    ) -> Result<[usize; 8], Refusal>
+        requires rows { 2561 ≤ length rows.old }
+        requires card { 128 ≤ length card.old }
+        ensures { MatchResult result (Carded M.Measure.ops M.Measure.meant R.gives (says self.now.sheet.now) (says self.now.sheet.now).face.kind card.new) (RefusedBy M.Measure.ops M.Measure.meant R.gives (says self.now.sheet.now) (says self.now.sheet.now).face.kind) }
     {
+        let (lists, rest) = rows.split_at_mut(512);
+        let mut room = Room::new(rest);
         match self.sheet.interface().kind {
-            Kind::Basic => self.work_basic::<R>(lists, room, card),
-            _ => self.work_events::<R>(lists, room, card),
+            Kind::Basic => self.work_basic::<R>(lists, &mut room, card),
+            _ => self.work_events::<R>(&Lists::new(lists), &mut room, card),
         }
     }
 }
@@ -88,13 +87,8 @@ pub fn card<M: Measure, R: Reducer<M>>(
         sheet: &*sheet,
         measure: PhantomData,
     };
-    let (lists, rest) = rows.split_at_mut(512);
-    let (card, rest) = rest.split_at_mut(128);
-    blank(card);
-    let mut lists = Lists::new(lists);
-    let mut card = Lists::new(card);
-    chart.work_card::<R>(&mut lists, &mut Room::new(rest), &mut card)?;
-    let Lists { rows, lens } = card;
-    copy_rows(rows, 128, out);
-    Ok(lens)
+    let (card, rest) = rows.split_at_mut(128);
+    let ends = chart.work_card::<R>(rest, card)?;
+    copy_rows(card, 128, out);
+    Ok(ends)
 }

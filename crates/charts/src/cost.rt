@@ -1,7 +1,6 @@
 // What a state costs: the sum of its actions.
-ghost use Rattle.std.specs.Prelude.{◌≡◌, ℕ, ◌<◌, ◌≤◌, List, [], length, slice_index_or};
-ghost use Rattle.std.specs.List.{AllByRecursion};
-ghost use Rattle.charts.specs.Charts.{Within, no_action, NamedAction, State, output_counts, algorithm_amount, action_cost, actions_cost, state_cost};
+ghost use Rattle.std.specs.Prelude.{◌≡◌, ◌<◌, [], length, slice_index_or};
+ghost use Rattle.charts.specs.Charts.{Within, no_action, State, output_counts, algorithm_amount, action_cost, state_cost};
 ghost use Rattle.charts.specs.Naming.{says};
 
 use crate::graph::Chart;

@@ -1,5 +1,5 @@
 // The lists of one state and of one event, formed in lent rows.
-ghost use Rattle.std.specs.Prelude.{◌≡◌, ℕ, ◌+◌, ◌*◌, ◌<◌, ◌≤◌, Bool, List, [], length, take, slice_index};
+ghost use Rattle.std.specs.Prelude.{◌≡◌, ℕ, ◌+◌, ◌<◌, ◌≤◌, Bool, length, take, slice_index};
 ghost use Rattle.std.specs.List.{flat_map};
 ghost use Rattle.costs.specs.Forming.{Reduces};
 ghost use Rattle.costs.specs.Lent.{list_at};
@@ -7,7 +7,7 @@ ghost use Rattle.sheets.specs.Form.{served};
 ghost use Rattle.sheets.specs.Shown.{shown_entry};
 ghost use Rattle.sheets.specs.declared.words.Transition.{Transition};
 ghost use Rattle.sheets.specs.declared.words.Kind.TheVariants.{Service};
-ghost use Rattle.charts.specs.Charts.{is_guarded, dests, frees, guarded, state_cost, served_entry, served_entries, no_entry, State, Leads};
+ghost use Rattle.charts.specs.Charts.{is_guarded, dests, frees, guarded, state_cost, served_entry, served_entries, State, Leads};
 ghost use Rattle.charts.specs.Cards.{StateList, EventList};
 ghost use Rattle.charts.specs.Naming.{says};
 ghost use Rattle.charts.specs.Rows.{Tests, Formed};
@@ -53,6 +53,7 @@ impl<'a, M: Measure> Chart<'a, M> {
         ensures rows { (p : Transition → Bool) → Tests (F.post is_meant) p → take result rows.new ≡ flat_map (list_at lists.now.rows.now lists.now.lens) (dests p (says self.now.sheet.now).transitions) }
         ensures few { result ≤ 1024 }
     {
+        // The sheet gives its transitions by number. A loop: of rows that a closure writes a proof knows nothing.
         let mut n = 0;
         for t in 0..self.sheet.count(Item::Transition) {
             let transition = self.transition(t);
@@ -106,6 +107,7 @@ impl<'a, M: Measure> Chart<'a, M> {
         ensures within { result ≤ length rows.new }
         ensures rows { take result rows.new ≡ served_entries M.Measure.meant f (says self.now.sheet.now).entries }
     {
+        // A loop, as above.
         let mut n = 0;
         for k in 0..self.sheet.count(Item::Entry) {
             let entry = entry_at(self.sheet, k);

@@ -1,7 +1,9 @@
 // The chart of a block as a graph: its states, and its event-free transitions.
-ghost use Rattle.std.specs.Prelude.{◌≡◌, ℕ, ◌<◌, ◌≤◌, true, false, length, Decides, MatchOption, slice_index_or};
-ghost use Rattle.order.specs.Order.{Marked, Ready, Barred, Below};
-ghost use Rattle.charts.specs.Charts.{no_event, is_free, no_transition, Named, Named-prop, State, Leads};
+ghost use Rattle.std.specs.Prelude.{◌≡◌, ◌<◌, ◌≢◌, true, length, Decides, slice_index_or};
+ghost use Rattle.std.proofs.Props.{props};
+ghost use Rattle.order.specs.Order.{Marked};
+ghost use Rattle.sheets.specs.declared.words.Kind.TheVariants.{Composite};
+ghost use Rattle.charts.specs.Charts.{is_free, no_transition, Named, Within-prop, State, Leads};
 ghost use Rattle.charts.specs.Naming.{says};
 
 use crate::names::transition_at;
@@ -17,7 +19,8 @@ pub(crate) struct Chart<'a, M: Measure> {
     pub(crate) sheet: &'a Checked<'a>,
     pub(crate) measure: PhantomData<M>,
     ghost width: { sheet.now.width.bytes ≡ M.Measure.wide },
-    ghost named: { Named (says sheet.now) } by { Named-prop (says sheet.now) },
+    ghost named: { Named (says sheet.now) } by { Prim.hlevel (props, Within-prop) },
+    ghost block: { (says sheet.now).face.kind ≢ Composite },
 }
 
 pub(crate) fn is_free(transition: Transition, s: usize) -> bool

@@ -1,5 +1,5 @@
 // The check of names: every number of a basic or a service sheet names something.
-ghost use Rattle.std.specs.Prelude.{◌≡◌, ℕ, ◌<◌, List, [], ◌∷◌, length, None, Decides, MatchOption, MatchResult, slice_index_or};
+ghost use Rattle.std.specs.Prelude.{◌≡◌, ℕ, ◌<◌, [], length, None, Decides, MatchOption, MatchResult, slice_index_or};
 ghost use Rattle.std.specs.List.{AllByRecursion};
 ghost use Rattle.sheets.specs.Sheets.{count_of};
 ghost use Rattle.sheets.specs.Shown.{shown_entry};

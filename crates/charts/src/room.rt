@@ -1,7 +1,7 @@
 // Rows lent for forming a list.
-ghost use Rattle.std.specs.Prelude.{◌≡◌, ℕ, ◌+◌, ◌<◌, ◌≤◌, [], ◌∷◌, length, take};
+ghost use Rattle.std.specs.Prelude.{◌≡◌, ◌<◌, ◌≤◌, [], ◌∷◌, length, take};
 ghost use Rattle.costs.specs.Entries.{entry_ops};
-ghost use Rattle.costs.specs.Forming.{Reduces, Is};
+ghost use Rattle.costs.specs.Forming.{Reduces};
 ghost use Rattle.costs.specs.Lent.{Came};
 ghost use Rattle.costs.specs.Lists.{sums};
 ghost use Rattle.charts.specs.Rows.{Formed};
@@ -12,9 +12,8 @@ use costs::lists::reduce_short;
 use costs::measure::Measure;
 use costs::reducer::Reducer;
 
-// Two fields of a room go to a function together, which takes the first rows of one: a part of a lent field cannot be lent beside the other.
-
 // Reduces the first n rows into the first of `into`, and answers how many these are; none where the result is above 16.
+// A function beside the struct, as the next: in a method, a part of one lent field cannot be lent beside another field.
 fn reduce_first<M: Measure, R: Reducer<M>>(
     rows: &mut [Entry<M>],
     n: usize,

@@ -1,22 +1,22 @@
 // The lists of all states, in working order, and then of all events, ascending.
-ghost use Rattle.std.specs.Prelude.{◌≡◌, ℕ, ◌+◌, ◌*◌, ◌<◌, ◌≤◌, List, [], length, take, IfErr, MatchResult, ◌≢◌, slice_index, slice_index_or};
+ghost use Rattle.std.specs.Prelude.{◌≡◌, ℕ, ◌+◌, ◌*◌, ◌<◌, ◌≤◌, [], length, take, IfErr, MatchResult, slice_index};
 ghost use Rattle.costs.specs.Entries.{entry_ops};
-ghost use Rattle.costs.specs.Lent.{list_at, Padded};
+ghost use Rattle.costs.specs.Lent.{list_at};
 ghost use Rattle.order.specs.Order.{Order, Complete, Unworkable};
 ghost use Rattle.order.specs.Ways.{Endless};
-ghost use Rattle.sheets.specs.declared.words.Kind.TheVariants.{Basic, Composite};
-ghost use Rattle.charts.specs.Forming.{made, stops};
+ghost use Rattle.sheets.specs.declared.words.Kind.TheVariants.{Basic};
+ghost use Rattle.charts.specs.Forming.{stops};
 ghost use Rattle.charts.specs.Charts.{State, Leads};
 ghost use Rattle.charts.specs.Cards.{EventBy, Events, BasicCard};
 ghost use Rattle.charts.specs.Naming.{says};
-ghost use Rattle.charts.specs.Refusals.{CircleAt, TooLongAt, lists_at};
-ghost use Rattle.charts.specs.Rows.{Formed, Working};
+ghost use Rattle.charts.specs.Refusals.{CircleAt, TooLongAt};
+ghost use Rattle.charts.specs.Rows.{Formed, Working, Evented};
 
 use crate::graph::Chart;
 use crate::refusal::Refusal;
 use crate::room::Room;
 use costs::entry::Entry;
-use costs::lists::Lists;
+use costs::lists::{Lists, blank};
 use costs::measure::Measure;
 use costs::reducer::Reducer;
 use order::plan;
@@ -61,7 +61,6 @@ impl<'a, M: Measure> Chart<'a, M> {
         lists: &Lists<'_, M, 32>,
         room: &'r mut Room<'_, M>,
     ) -> Option<&'r [Entry<M>]>
-        requires block { (says self.now.sheet.now).face.kind ≢ Composite }
         requires event { f < (says self.now.sheet.now).face.inputs }
         requires worked { (says self.now.sheet.now).face.kind ≡ Basic → (s : ℕ) → State (says self.now.sheet.now) s → 1 ≤ slice_index lists.now.lens s }
         ensures { Formed (EventBy M.Measure.ops M.Measure.meant R.gives (says self.now.sheet.now) (says self.now.sheet.now).face.kind (list_at lists.now.rows.now lists.now.lens) f) result }
@@ -72,27 +71,25 @@ impl<'a, M: Measure> Chart<'a, M> {
         }
     }
 
-    // Works the lists of all events: that of event e is list e of the card. Refused is 256 + the event whose reduced list is too long.
+    // Works the lists of all events in the rows: that of event e stands in rows 16 e and on, with zero entries past it. Answers their lengths; refused is 256 + the event whose reduced list is too long.
     pub(crate) fn work_events<R: Reducer<M>>(
         &self,
         lists: &Lists<'_, M, 32>,
         room: &mut Room<'_, M>,
-        card: &mut Lists<'_, M, 8>,
-    ) -> Result<(), Refusal>
-        requires block { (says self.now.sheet.now).face.kind ≢ Composite }
+        rows: &mut [Entry<M>],
+    ) -> Result<[usize; 8], Refusal>
         requires worked { (says self.now.sheet.now).face.kind ≡ Basic → (s : ℕ) → State (says self.now.sheet.now) s → 1 ≤ slice_index lists.now.lens s }
-        requires fresh { (e : ℕ) → slice_index card.old.lens e ≡ 0 }
-        requires blank { (q : ℕ) → slice_index_or card.old.rows.now q (entry_ops M.Measure.ops).zero ≡ (entry_ops M.Measure.ops).zero }
-        ensures events { MatchResult result (λ _. Events (EventBy M.Measure.ops M.Measure.meant R.gives (says self.now.sheet.now) (says self.now.sheet.now).face.kind (list_at lists.now.rows.now lists.now.lens)) (says self.now.sheet.now).face.inputs 0 [] (made (lists_at card.new.rows.now card.new.lens (says self.now.sheet.now).face.inputs 0))) (TooLongAt (λ p. Events (EventBy M.Measure.ops M.Measure.meant R.gives (says self.now.sheet.now) (says self.now.sheet.now).face.kind (list_at lists.now.rows.now lists.now.lens)) (says self.now.sheet.now).face.inputs 0 [] (stops p))) }
-        ensures padded { Padded (entry_ops M.Measure.ops).zero card.new.rows.now card.new.lens }
-        ensures unused { (e : ℕ) → (says self.now.sheet.now).face.inputs ≤ e → slice_index card.new.lens e ≡ 0 }
+        requires rows { 128 ≤ length rows.old }
+        ensures { MatchResult result (Evented (EventBy M.Measure.ops M.Measure.meant R.gives (says self.now.sheet.now) (says self.now.sheet.now).face.kind (list_at lists.now.rows.now lists.now.lens)) (says self.now.sheet.now).face.inputs (entry_ops M.Measure.ops).zero rows.new) (TooLongAt (λ p. Events (EventBy M.Measure.ops M.Measure.meant R.gives (says self.now.sheet.now) (says self.now.sheet.now).face.kind (list_at lists.now.rows.now lists.now.lens)) (says self.now.sheet.now).face.inputs 0 [] (stops p))) }
     {
+        blank(rows);
+        let mut card = Lists::new(rows);
         for e in 0..usize::from(self.sheet.interface().inputs) {
             let list = self
                 .form_event::<R>(e, lists, room)
                 .ok_or(Refusal::TooLong { place: 256 + e })?;
             card.store(e, list);
         }
-        Ok(())
+        Ok(card.lens)
     }
 }

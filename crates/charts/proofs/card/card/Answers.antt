@@ -1,5 +1,5 @@
 -- The card in the caller's rows, with what is shown of it. Assumes nothing.
-use Rattle.std.proofs.Common.{◌≡◌, ◌+◌, ◌*◌, get_or, sym, refl, ap, ◌∙◌, subst, arith}
+use Rattle.std.proofs.Common.{◌≡◌, ◌+◌, ◌*◌, get_or, sym, refl, ◌∙◌, subst, arith}
 use Rattle.std.proofs.lemmas.Result.{err_from_is_err_and}
 use Rattle.costs.specs.Entries.{entry_ops}
 use Rattle.sheets.proofs.Forms.{form_of}
@@ -11,19 +11,11 @@ use Rattle.costs.proofs.Interface.{same_part, same_at}
 use Rattle.charts.proofs.Segments.{lists_same}
 use Rattle.charts.proofs.card.card.Goals as goal
 
-pub work_card-requires : goal.work_card-requires
-work_card-requires g c =
-    let z = (entry_ops g.M.Measure.ops).zero in
-    (omega arith, (omega arith, (c.requires.block, (c.new-lists.ensures.none, (c.new-card.ensures.none, λ q. ap (λ l. get_or l q z) c.new-card.ensures.rows ∙ c.blank.ensures q)))))
-
-pub copy_rows-requires : goal.copy_rows-requires
-copy_rows-requires g c = (omega (arith, c.work_card.new.card.all, c.in_ok-work_card.ensures.lent.room), c.requires.out)
-
-pub returns-in_err-work_card : goal.returns-in_err-work_card
-returns-in_err-work_card g c =
+pub returns-in_err-ends : goal.returns-in_err-ends
+returns-in_err-ends g c =
     let p = err_from_is_err_and c.from_residual.result c.from_residual.ensures.1 in
     let S = says c.args.sheet.now in
-    let h = c.in_err-work_card.ensures in
+    let h = c.in_err-ends.ensures in
     rw (p.1, p.2) (record { answer = h; rows = refl; lengths = tt; whole = tt; covers = tt; attained = tt; exact = refusal_exact g.M.Measure.ops g.M.Measure.meant g.R.Reducer.gives S _ h })
 
 pub returns : goal.returns
@@ -34,9 +26,9 @@ returns g c =
     let meant = g.M.Measure.meant in
     let gives = g.R.Reducer.gives in
     let form = form_of sheet.width.bytes sheet.bytes.now sheet.right in
-    let done = c.in_ok-work_card.ensures in
-    let ends = c.work_card.new.card.lens in
-    let rows = c.work_card.new.card.rows.now in
+    let done = c.in_ok-ends.ensures in
+    let ends = c.in_ok-ends.ends in
+    let rows = c.work_card.new.card in
     let out = c.copy_rows.new.out in
     let n = S.face.inputs in
     let same : lists_at rows ends n 0 ≡ lists_at out ends n 0 =

@@ -8,13 +8,6 @@ use Rattle.charts.specs.Naming.{says}
 use Rattle.charts.proofs.Costs.{within_more}
 use Rattle.charts.proofs.graph.Chart.action_cost.Goals as goal
 
-pub algorithm_amount-requires : goal.algorithm_amount-requires
-algorithm_amount-requires g c =
-    let S = says c.args.self.now.sheet.now in
-    let all = All-get_or (AllByRecursion (NamedAction S)) S.states c.args.s [] c.requires.0 c.args.self.now.named.states in
-    let named = subst (NamedAction S) (sym c.action_at-action.ensures) (All-get_or (NamedAction S) (get_or S.states c.args.s []) c.args.j no_action c.requires.1 all) in
-    named.algorithm
-
 pub output_counts-requires : goal.output_counts-requires
 output_counts-requires g c =
     let sheet = c.args.self.now.sheet.now in

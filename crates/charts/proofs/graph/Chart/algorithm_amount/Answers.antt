@@ -4,18 +4,11 @@ use Rattle.std.proofs.lemmas.Option.{slice_get-get_or}
 use Rattle.sheets.proofs.Forms.{form_of}
 use Rattle.charts.specs.Charts.{Within, algorithm_amount}
 use Rattle.charts.specs.Naming.{says}
-use Rattle.charts.proofs.Firsts.{some_mapped, mapped_some}
+use Rattle.charts.proofs.Firsts.{mapped_some}
 use Rattle.charts.proofs.graph.Chart.algorithm_amount.Goals as goal
 
 bytes_of : Bor (List ℕ) → List ℕ
 bytes_of r = r.now
-
-pub unwrap-requires : goal.unwrap-requires
-unfolding bytes_of
-unwrap-requires g c =
-    let S = says c.args.self.now.sheet.now in
-    let within : c.in-Some.k < length S.amounts = subst (Within (length S.amounts)) c.in-Some.is c.requires in
-    some_mapped bytes_of c.amount.result _ (c.amount.ensures ∙ slice_get-get_or S.amounts c.in-Some.k [] within)
 
 pub read-requires : goal.read-requires
 unfolding bytes_of

@@ -1,17 +1,12 @@
 -- The list of an event: the zero entry, or what is gathered, reduced. Assumes nothing.
 use Rattle.std.proofs.Common.{ℕ, ◌≤◌, [], ◌∷◌, length, take, sym, ap, ◌∙◌, subst, rules, arith}
-use Rattle.std.specs.List.{flat_map}
-use Rattle.std.proofs.lemmas.List.{length-take-le}
-use Rattle.costs.specs.Forming.{Reduces}
 use Rattle.costs.specs.Lent.{list_at}
 use Rattle.costs.specs.Lists.{Among}
 use Rattle.costs.proofs.Interface.{among_all, length_list_at}
 use Rattle.charts.specs.Charts.{is_guarded, guarded, NamedTransition}
-use Rattle.charts.specs.Cards.{EventList}
 use Rattle.charts.specs.Naming.{says}
-use Rattle.charts.specs.Rows.{Formed}
 use Rattle.charts.proofs.Dests.{from_dests}
-use Rattle.charts.proofs.Steps.{event_alone, event_reduced, formed_as}
+use Rattle.charts.proofs.Steps.{event_alone}
 use Rattle.charts.proofs.graph.Chart.event_list.Goals as goal
 
 pub returns-then-n-eq0 : goal.returns-then-n-eq0
@@ -28,17 +23,3 @@ returns-then-n-eq0 g c =
     let none = sym (ap length gathered) ∙ ap (λ k. length (take k c.gather-n.new.rows)) c.if-n-eq0.true in
     let one = ap length c.alone.ensures in
     (event_alone g.M.Measure.ops g.R.Reducer.gives T ds c.alone.result.now some none (c.alone.ensures ∙ ap (λ e. e ∷ []) c.zero.ensures), (omega (arith, one), omega (arith, one)))
-
-pub returns : goal.returns
-returns g c =
-    let S = says c.args.self.now.sheet.now in
-    let lists = c.args.lists.now in
-    let T = list_at lists.rows.now lists.lens in
-    let ds = guarded S c.args.f in
-    let gathered = c.gather-n.ensures.rows (is_guarded c.args.f) (λ t b h. search rules) in
-    let gives = g.R.Reducer.gives in
-    let rows = c.gather-n.new.rows in
-    let n = c.gather-n.result in
-    let some : 1 ≤ length (flat_map T ds) = omega (arith, length-take-le n rows (omega (arith, c.gather-n.ensures.few, c.gather-n.auto.rows, c.args.room.now.gathers)), ap length gathered) in
-    formed_as (Reduces gives (flat_map T ds)) (EventList g.M.Measure.ops gives T ds) (event_reduced g.M.Measure.ops gives T ds some) c.reduced.result
-    (subst (λ l. Formed (Reduces gives l) c.reduced.result) gathered c.reduced.ensures)

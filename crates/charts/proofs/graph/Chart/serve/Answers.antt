@@ -1,6 +1,6 @@
 -- The entries of the event, one after another. Assumes nothing.
-use Rattle.std.proofs.Common.{◌≡◌, ◌+◌, ◌<◌, ◌++◌, length, take, drop, sym, ap, ◌∙◌, subst, append-nil, arith}
-use Rattle.std.proofs.lemmas.List.{at_drop_all, take_more_set, length-append, length-take-le}
+use Rattle.std.proofs.Common.{◌≡◌, ◌+◌, ◌<◌, ◌++◌, length, take, drop, sym, ap, ◌∙◌, subst, arith}
+use Rattle.std.proofs.lemmas.List.{take_more_set, length-append, length-take-le}
 use Rattle.sheets.proofs.Forms.{form_of}
 use Rattle.charts.specs.Charts.{served_entry, served_entries, no_entry}
 use Rattle.charts.specs.Naming.{says}
@@ -51,12 +51,3 @@ loop-k-preserved g c =
         omega (arith, w.n-is, c.loop-k.invariant.1, c.if-entry-f.auto.rows, c.loop-k.auto.rows),
       )
     ]
-
-pub returns : goal.returns
-returns g c =
-    let S = says c.args.self.now.sheet.now in
-    let so_far = take c.loop-k.n c.loop-k.rows in
-    record {
-      within = c.loop-k.invariant.1;
-      rows = sym (append-nil so_far) ∙ ap (λ l. so_far ++ l) (sym (at_drop_all (served_entries g.M.Measure.meant c.args.f) S.entries c.loop-k.k (omega (arith, c.count-k-end.ensures)))) ∙ c.loop-k.invariant.0;
-    }

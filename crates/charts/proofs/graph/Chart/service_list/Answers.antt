@@ -1,17 +1,15 @@
 -- The entries of the event, reduced. Assumes nothing.
-use Rattle.std.proofs.Common.{length, ap, ◌∙◌, subst, arith}
+use Rattle.std.proofs.Common.{length, ap, ◌∙◌, arith}
 use Rattle.std.proofs.lemmas.List.{length-take-le}
 use Rattle.sheets.proofs.Forms.{form_of}
-use Rattle.costs.specs.Forming.{Reduces}
 use Rattle.charts.specs.Naming.{says}
-use Rattle.charts.specs.Rows.{Formed}
 use Rattle.charts.proofs.Serving.{length_served}
 use Rattle.charts.proofs.graph.Chart.service_list.Goals as goal
 
-pub serve-n-requires : goal.serve-n-requires
-serve-n-requires g c =
+pub serve-n-requires-clause-few : goal.serve-n-requires-clause-few
+serve-n-requires-clause-few g c =
     let sheet = c.args.self.now.sheet.now in
-    record { few = (form_of sheet.width.bytes sheet.bytes.now sheet.right).few_entries c.args.f c.requires.event; room = omega (arith, c.args.room.now.gathers) }
+    (form_of sheet.width.bytes sheet.bytes.now sheet.right).few_entries c.args.f c.requires.event
 
 pub reduced-requires : goal.reduced-requires
 reduced-requires g c =
@@ -23,6 +21,3 @@ reduced-requires g c =
     let some = form.some_entries c.requires.service c.args.f c.requires.event in
     let few = form.few_entries c.args.f c.requires.event in
     (omega (arith, taken, size, some), omega (arith, taken, size, few))
-
-pub returns : goal.returns
-returns g c = subst (λ l. Formed (Reduces g.R.Reducer.gives l) c.reduced.result) c.serve-n.ensures.rows c.reduced.ensures

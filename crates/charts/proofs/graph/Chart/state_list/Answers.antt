@@ -1,17 +1,10 @@
 -- The list of a state: its cost alone, or joined with what is gathered. Assumes nothing.
 use Rattle.std.proofs.Common.{ℕ, ◌≤◌, [], ◌∷◌, length, take, sym, ap, ◌∙◌, subst, rules, arith}
-use Rattle.std.specs.List.{flat_map}
-use Rattle.std.proofs.lemmas.List.{length-take-le}
-use Rattle.costs.specs.Entries.{entry_ops}
-use Rattle.costs.specs.Forming.{Reduces}
 use Rattle.costs.specs.Lent.{list_at}
-use Rattle.costs.specs.Lists.{sums}
 use Rattle.costs.proofs.Interface.{length_list_at}
 use Rattle.charts.specs.Charts.{is_free, state_cost, frees, Leads}
-use Rattle.charts.specs.Cards.{StateList}
 use Rattle.charts.specs.Naming.{says}
-use Rattle.charts.specs.Rows.{Formed}
-use Rattle.charts.proofs.Steps.{state_alone, state_joined, formed_as}
+use Rattle.charts.proofs.Steps.{state_alone}
 use Rattle.charts.proofs.graph.Chart.state_list.Goals as goal
 
 pub returns-then-n-eq0 : goal.returns-then-n-eq0
@@ -25,19 +18,3 @@ returns-then-n-eq0 g c =
     let none = sym (ap length gathered) ∙ ap (λ k. length (take k c.gather-n.new.rows)) c.if-n-eq0.true in
     let one = ap length c.alone.ensures in
     (state_alone g.M.Measure.ops g.R.Reducer.gives T (state_cost g.M.Measure.ops g.M.Measure.meant S c.args.s) ds c.alone.result.now some none (c.alone.ensures ∙ ap (λ e. e ∷ []) c.state_cost-cost.ensures), (omega (arith, one), omega (arith, one)))
-
-pub returns : goal.returns
-returns g c =
-    let S = says c.args.self.now.sheet.now in
-    let lists = c.args.lists.now in
-    let T = list_at lists.rows.now lists.lens in
-    let ds = frees S c.args.s in
-    let gathered = c.gather-n.ensures.rows (is_free c.args.s) (λ t b h. search rules) in
-    let ops = entry_ops g.M.Measure.ops in
-    let gives = g.R.Reducer.gives in
-    let cost = state_cost g.M.Measure.ops g.M.Measure.meant S c.args.s in
-    let rows = c.gather-n.new.rows in
-    let n = c.gather-n.result in
-    let some : 1 ≤ length (flat_map T ds) = omega (arith, length-take-le n rows (omega (arith, c.gather-n.ensures.few, c.gather-n.auto.rows, c.args.room.now.gathers)), ap length gathered) in
-    formed_as (Reduces gives (sums ops (cost ∷ []) (flat_map T ds))) (StateList g.M.Measure.ops gives T cost ds) (state_joined g.M.Measure.ops gives T cost ds some) c.joined.result
-    (subst (λ l. Formed (Reduces gives l) c.joined.result) (ap (sums ops (c.state_cost-cost.result ∷ [])) gathered ∙ ap (λ e. sums ops (e ∷ []) (flat_map T ds)) c.state_cost-cost.ensures) c.joined.ensures)

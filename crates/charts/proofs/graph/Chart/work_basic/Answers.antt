@@ -6,8 +6,6 @@ use Rattle.charts.proofs.graph.Chart.work_basic.Goals as goal
 
 pub returns : goal.returns
 returns g c =
-    let S = says c.args.self.now.sheet.now in
     let lists = c.work_states.new.lists in
-    let card = c.work_events.new.card in
-    basic_carded g.M.Measure.ops g.M.Measure.meant g.R.Reducer.gives S (take c.in_ok-count.count c.plan.new.order) lists.rows.now lists.lens c.requires.kind c.in_ok-count.ensures.order.1 c.in_ok-work_states.ensures
-    card.rows.now card.lens card.lent c.work_events.ensures.padded c.work_events.ensures.unused c.work_events.result c.work_events.ensures.events
+    basic_carded g.M.Measure.ops g.M.Measure.meant g.R.Reducer.gives (says c.args.self.now.sheet.now) (take c.in_ok-count.count c.plan.new.order) lists.rows.now lists.lens c.requires.kind c.in_ok-count.ensures.order.1 c.in_ok-work_states.ensures
+    c.work_events.new.rows c.work_events.result c.work_events.ensures

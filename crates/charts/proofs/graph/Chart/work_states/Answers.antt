@@ -1,6 +1,6 @@
 -- The states, one after another. Assumes nothing.
-use Rattle.std.proofs.Common.{ℕ, ◌+◌, List, [], get_or, take, drop, sym, ◌∙◌, subst, arith}
-use Rattle.std.proofs.lemmas.List.{take_more, take_all, at_drop_more, at_drop_all}
+use Rattle.std.proofs.Common.{◌+◌, get_or, take, drop, sym, ◌∙◌, subst, arith}
+use Rattle.std.proofs.lemmas.List.{take_more, at_drop_more}
 use Rattle.std.proofs.lemmas.Result.{err_from_is_err_and}
 use Rattle.costs.specs.Lent.{list_at}
 use Rattle.sheets.proofs.Forms.{form_of}
@@ -15,12 +15,6 @@ use Rattle.charts.proofs.graph.Chart.work_states.Goals as goal
 
 pub loop-s-init : goal.loop-s-init
 loop-s-init g c = working_none g.M.Measure.ops g.M.Measure.meant g.R.Reducer.gives (says c.args.self.now.sheet.now) c.args.order.now c.args.lists.now.rows.now c.args.lists.now.lens c.args.lists.now.lent.room c.requires.fresh
-
-pub state_list-requires : goal.state_list-requires
-state_list-requires g c =
-    let l = c.loop-s in
-    let next = c.requires.order l.s-index c.loop-s-test.true in
-    (omega arith, (next.node, λ d led. l.invariant.filled d (next.ready d led)))
 
 pub store-requires : goal.store-requires
 store-requires g c =
@@ -60,10 +54,3 @@ loop-s-preserved g c =
     let formed = formed_ok (StateList ops gives (list_at l.lists.rows.now l.lists.lens) (state_cost ops meant S s) (frees S s)) (TooLong s) c.state_list.result c.in_ok-list.list c.in_ok-list.ensures.value c.state_list.ensures in
     subst (λ done. Working ops meant gives S order done (drop (l.s-index + 1) order) stored.rows.now stored.lens) (sym (take_more order l.s-index 0 c.loop-s-test.true))
     (working_more ops meant gives S order (take l.s-index order) (drop (l.s-index + 1) order) s l.lists.rows.now l.lists.lens was c.in_ok-list.list.now stored.rows.now stored.lens formed.0 c.store.ensures.stored)
-
-pub returns : goal.returns
-returns g c =
-    let l = c.loop-s in
-    let order = c.args.order.now in
-    let W : List ℕ → List ℕ → Type 0 = λ done rest. Working g.M.Measure.ops g.M.Measure.meant g.R.Reducer.gives (says c.args.self.now.sheet.now) order done rest l.lists.rows.now l.lists.lens in
-    subst (λ done. W done []) (take_all l.s-index order c.loop-s-test.false) (subst (W (take l.s-index order)) (at_drop_all (λ ws. ws) order l.s-index c.loop-s-test.false) l.invariant)
