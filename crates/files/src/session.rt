@@ -9,7 +9,7 @@ use crate::form::Form;
 use costs::entry::Entry;
 use costs::measure::Measure;
 use costs::reducer::Reducer;
-use library::calls::{Answer, Call};
+use library::calls::{Accepted, Answer, Call};
 use library::replay::replay;
 use library::row::Row;
 use listing::amount::Spelt;
@@ -95,7 +95,7 @@ pub fn session<M: Spelt + Clone, R: Reducer<M>>(
 {
     let (calls, end) = decode(heap, form, bytes)?;
     let zero: Entry<M> = Entry::zero();
-    let mut answers = vec![in heap; Answer::Done; calls.len()]?;
+    let mut answers = vec![in heap; Ok(Accepted::Done); calls.len()]?;
     let mut shelf = vec![in heap; 0u8; form.bytes()]?;
     let mut index = vec![in heap; unused_row(); form.blocks()]?;
     let mut cards = vec![in heap; zero; 128 * form.blocks()]?;
