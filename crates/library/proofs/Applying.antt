@@ -5,11 +5,12 @@ use Rattle.std.proofs.lemmas.Bool.{cases_lt, le-leb}
 use Rattle.costs.specs.Amounts.{Lawful}
 use Rattle.costs.specs.Lists.{Sound as SoundReducer}
 use Rattle.costs.specs.declared.entry.Entry.{Entry}
-use Rattle.sheets.specs.Refusals.{framing_of, check_of}
+use Rattle.std.specs.Result.{result_and}
+use Rattle.sheets.specs.Refusals.{framing_of, check_of, both_of}
 use Rattle.sheets.specs.declared.refusal.Refusal.{Refusal as SheetRefusal}
 use Rattle.library.specs.Books.{Rules, Book}
 use Rattle.library.specs.Calls.{Answer, asked, lent_to, replied}
-use Rattle.library.specs.Checks.{Sizes, Lent, turned, Framed}
+use Rattle.library.specs.Checks.{Sizes, Lent, turned, Bad, Framed}
 use Rattle.library.specs.Law.{GoesOn}
 use Rattle.library.specs.Memory.{Stands}
 use Rattle.library.specs.Refusals.{by_sheet}
@@ -89,14 +90,19 @@ written_book {rules = rules} {ask = ask} {lent = lent} {s = s} {i = i} {c = c} m
     (next.0, (subst (λ z. Step rules (sizes_of s i c) b ask lent z next.0) (sym as_said) next.1.0, next.1.1))
 written_book make say agrees k o m t left part cut long is room (Err e) goes b st = goes b st
 
+-- checks 1 and 2 stop at check 1, or at check 2 after it
+pub read_stops : (w : ℕ) (bs : List ℕ) (e : SheetRefusal) {P : Type 0} → both_of w bs ≡ Err e → (Bad (framing_of bs) (by_sheet e) → P) → (Framed bs → Bad (check_of w bs) (by_sheet e) → P) → P
+read_stops w bs e {P} is first second = by_first (framing_of bs) refl is
+  where
+    by_first : (r : Result Unit SheetRefusal) → framing_of bs ≡ r → result_and r (check_of w bs) ≡ Err e → P
+    by_first (Ok x) f is = second (ap is_ok f) (record { refusal = e; is = is; as_told = refl })
+    by_first (Err y) f is = first (record { refusal = e; is = f ∙ is; as_told = refl })
+
 -- a preview that stops at check 1 or 2 changes nothing
 module _ {M : Type 0} (rules : Rules M) (laws : Lawful rules.ops) (sound : SoundReducer rules.ops rules.gives) (w : ℕ) (bs : List ℕ) (lent : Lent)
     (s : List ℕ) (i : List Row) (c : List (Entry M)) (e : SheetRefusal) where
   stops : ((b : Book M) → Previewing rules b lent w bs (turned (by_sheet e))) → GoesOn rules (preview w bs) lent (refused (by_sheet e)) s i c s i c
   stops p b st = (b, (no_preview w bs lent (by_sheet e) (p b), (st, stands_sound rules laws sound b s i c st)))
 
-  pub stops_framing : framing_of bs ≡ Err e → GoesOn rules (preview w bs) lent (refused (by_sheet e)) s i c s i c
-  stops_framing is = stops (λ b. inl (record { refusal = e; is = is; as_told = refl }))
-
-  pub stops_check : Framed bs → check_of w bs ≡ Err e → GoesOn rules (preview w bs) lent (refused (by_sheet e)) s i c s i c
-  stops_check framed is = stops (λ b. inr (framed, inl (record { refusal = e; is = is; as_told = refl })))
+  pub stops_read : both_of w bs ≡ Err e → GoesOn rules (preview w bs) lent (refused (by_sheet e)) s i c s i c
+  stops_read is = stops (λ b. read_stops w bs e is (λ bad. inl bad) (λ framed bad. inr (framed, inl bad)))

@@ -1,4 +1,5 @@
 -- What follows of the crate's definitions. Assumes nothing.
+pub mod Passing
 pub mod Parts
 pub mod Rows
 pub mod Books

@@ -1,5 +1,5 @@
 -- The clauses of rework from what its code found. Assumes nothing.
-use Rattle.std.proofs.Common.{◌≡◌, ℕ, ◌*◌, ◌<◌, ◌≤◌, true, false, ◌&&◌, List, take, drop, set, is_ok, Ok, Err, Result, sym, refl, ap, ◌∙◌, subst, subst₂, inl, inr, arith, MatchResult}
+use Rattle.std.proofs.Common.{◌≡◌, ℕ, ◌+◌, ◌*◌, ◌<◌, ◌≤◌, true, false, ◌&&◌, List, length, take, drop, set, is_ok, Ok, Err, Result, sym, refl, ap, ◌∙◌, subst, subst₂, inl, inr, arith, MatchResult}
 use Rattle.std.proofs.lemmas.List.{get_or-set_same}
 use Rattle.std.proofs.lemmas.Bool.{false≢true, and_from}
 use Rattle.costs.specs.Amounts.{Lawful}
@@ -12,11 +12,11 @@ use Rattle.sheets.specs.Refusals.{framing_of, check_of}
 use Rattle.sheets.specs.Sheets.{Sheet, sheet_of}
 use Rattle.sheets.proofs.Forms.{form_of}
 use Rattle.library.specs.Books.{Rules, Book, size, at, with_work, Stale}
-use Rattle.library.specs.Checks.{Lent, Blocks, blocks_of, Verdict, turned, fine, First, Never, Behind, Named, cards_beneath, network, CardOf, Working}
+use Rattle.library.specs.Checks.{Lent, MisnamedBy, NamedBy, Blocks, blocks_of, Verdict, turned, fine, First, Never, Behind, Named, cards_beneath, network, CardOf, Working}
 use Rattle.library.specs.Law.{GoesOn}
 use Rattle.library.specs.Marks.{Counted, kept_bytes}
 use Rattle.library.specs.Memory.{Stands}
-use Rattle.library.specs.Placing.{Old, CardIn, Redone, Regular, Renewed, Reworks}
+use Rattle.library.specs.Placing.{lent_of, faces_kept, Old, CardIn, Again, Redone, Regular, Renewed, Reworks}
 use Rattle.library.specs.Refusals.{told, by_library}
 use Rattle.library.specs.Replies.{verdict, reply}
 use Rattle.library.specs.Steps.{Renewing, Reworking, rework, done, refused, no_rework}
@@ -26,7 +26,7 @@ use Rattle.library.specs.declared.row.Row.{Row}
 use Rattle.library.proofs.Answering.{goes_same}
 use Rattle.library.proofs.Entered.{fit_any}
 use Rattle.library.proofs.Finding.{first_as}
-use Rattle.library.proofs.Forming.{off_card}
+use Rattle.library.proofs.Forming.{off_card, names_pass}
 use Rattle.library.proofs.Parts.{part_written}
 use Rattle.library.proofs.Placing.{mark_stale, named_back, renewing_to}
 use Rattle.library.proofs.Reading.{counted_is, framed_kept, right_kept, says_kept, book_current, list_is}
@@ -75,6 +75,14 @@ module _ {M : Type 0} (rules : Rules M) (s : Sheet) (index : List Row) (cards : 
           record { card = h.card; renewing = λ reg. (none_behind, (rows, h.worked reg.fit)); sized = h.sized; index_is = h.index_is; cards_is = h.cards_is }
       renew_done (Err e) h = λ reg. inr (none_behind, inr (rows, h reg.fit))
 
+-- what the names come to after checks 4 and 7
+pub checked_again : {M : Type 0} (rules : Rules M) (s : Sheet) (index : List Row) (cards : List (Entry M)) (rows n w : ℕ) (bs : List ℕ) → sheet_of w bs ≡ s → Never (Old index s) → 3072 ≤ rows → 128 * n + 128 ≤ length cards
+    → (r : Result Unit Refusal) → MatchResult r (λ _. Named (blocks_kept 0 index cards) s) (λ e. MisnamedBy (faces_kept index s.instances) w bs s.face.kind (told e))
+    → MatchResult r (λ _. Again s index cards rows n) (λ e. (k : ℕ) → Regular rules s k index cards (lent_of rows 0) n → Renewing rules (blocks_kept k index cards) s (lent_of rows 0) (turned (told e)))
+checked_again rules s index cards rows n w bs is current many room (Ok u) named = record { current = current; room = (many, room); named = named }
+checked_again rules s index cards rows n w bs is current many room (Err e) misnamed =
+    λ k reg. absurd (subst (λ x. MisnamedBy (faces_kept index x.instances) w bs x.face.kind (told e) → NamedBy (faces_kept index x.instances) x x.face.kind → ⊥) is (λ m named. names_pass (faces_kept index (sheet_of w bs).instances) w bs (told e) named m) misnamed reg.named)
+
 module _ {M : Type 0} (rules : Rules M) (laws : Lawful rules.ops) (sound : SoundReducer rules.ops rules.gives) (shelf : List ℕ) (index : List Row) (cards : List (Entry M)) (lent : Lent)
     (count : ℕ) (counted : Counted index count) (n : ℕ) where
   abbrev kept_sheet : Sheet
@@ -104,9 +112,8 @@ module _ {M : Type 0} (rules : Rules M) (laws : Lawful rules.ops) (sound : Sound
       pub is_kept : (is_ok (framing_of (kept_bytes shelf (row_at index n))) && is_ok (check_of rules.wide (kept_bytes shelf (row_at index n)))) ≡ true
       is_kept = and_from _ _ (framed_kept st n low) (right_kept st n low)
 
-      pub no_kept : (row : Row) → row ≡ row_at index n → (bs : List ℕ) → bs ≡ kept_bytes shelf row → (w : ℕ) → w ≡ rules.wide → false ≡ (is_ok (framing_of bs) && is_ok (check_of w bs)) → ⊥
-      no_kept row is bs are w wide bad =
-          false≢true (bad ∙ subst₂ (λ x y. (is_ok (framing_of x) && is_ok (check_of y x)) ≡ true) (sym (are ∙ ap (kept_bytes shelf) is)) (sym wide) is_kept)
+      pub no_kept : (row : Row) → row ≡ row_at index n → (is_ok (framing_of (kept_bytes shelf row)) && is_ok (check_of rules.wide (kept_bytes shelf row))) ≡ false → ⊥
+      no_kept row is bad = false≢true (sym bad ∙ subst (λ r. (is_ok (framing_of (kept_bytes shelf r)) && is_ok (check_of rules.wide (kept_bytes shelf r))) ≡ true) (sym is) is_kept)
 
       -- in tables that stand for a book nothing else is found
       regular : Regular rules kept_sheet count index cards lent n

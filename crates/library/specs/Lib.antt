@@ -1,5 +1,6 @@
 -- What the library promises. Assumes nothing.
 pub mod Books
+pub mod Lent
 pub mod Runs
 pub mod Refusals
 pub mod Checks

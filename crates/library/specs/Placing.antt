@@ -116,6 +116,16 @@ pub record Previewed {M : Type 0} (rules : Rules M) (v : Blocks M) (s : Sheet) (
   pub rows : out ≡ overwritten before 0 (card_rows (entry_ops rules.ops).zero (list_at out lens))
   pub lengths : lens ≡ lens_of (list_at out lens)
 
+-- the row with these lengths of the lists, and current
+abbrev pub renewed_row : Row → List ℕ → Row
+renewed_row r lens = record { used = r.used; start = r.start; len = r.len; inputs = r.inputs; outputs = r.outputs; lens = lens; old = false }
+
+-- block n, whose kept sheet this is, can be worked again: what it stands on is current, there are so many working rows and rows of its own, and its numbers name something
+pub record Again {M : Type 0} (s : Sheet) (index : List Row) (cards : List (Entry M)) (rows n : ℕ) : Type 0 where
+  pub current : Never (Old index s)
+  pub room : (3072 ≤ rows) × (128 * n + 128 ≤ length cards)
+  pub named : Named (blocks_kept 0 index cards) s
+
 -- a card worked again for block n, in its rows and its row
 pub record Redone {M : Type 0} (rules : Rules M) (v : Blocks M) (s : Sheet) (n : ℕ) (index : List Row) (cards : List (Entry M)) (index' : List Row) (cards' : List (Entry M)) : Type 0 where
   pub card : ℕ → List (Entry M)

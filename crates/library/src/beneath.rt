@@ -3,8 +3,7 @@ ghost use Rattle.std.specs.Prelude.{◌≡◌, ◌*◌, min, slice_index, slice_
 ghost use Rattle.library.specs.Placing.{faces_kept, cards_kept};
 ghost use Rattle.library.specs.Tables.{kept_list};
 
-use crate::kept::row_at;
-use crate::row::Row;
+use crate::Kept;
 use crate::tables::part;
 use costs::entry::Entry;
 use costs::measure::Measure;
@@ -12,9 +11,8 @@ use networks::beneath::{Beneath, Face};
 
 // The tables, and the number of each instance's block.
 #[derive(Drop)]
-pub(crate) struct Below<'i, 'c, 'n, M> {
-    pub(crate) index: &'i [Row],
-    pub(crate) cards: &'c [Entry<M>],
+pub(crate) struct Below<'k, 'n, M> {
+    pub(crate) kept: Kept<'k, M>,
     pub(crate) names: &'n [u8],
 }
 
@@ -39,24 +37,26 @@ fn event_start(rows: usize, f: usize) -> usize
     if f <= rows / 16 { 16 * f } else { rows }
 }
 
-// The list of event f on the card of block n.
-fn kept_list<'a, M>(index: &[Row], cards: &'a [Entry<M>], n: u8, f: usize) -> &'a [Entry<M>]
-    ensures { result.now ≡ kept_list index.now cards.now n f }
-{
-    let row = row_at(index, n as usize);
-    let card = part(cards, 128 * n as usize, cards.len());
-    part(card, event_start(card.len(), f), len_at(&row.lens, f))
+impl<'a, M: Measure> Kept<'a, M> {
+    // The list of event f on the card of block n.
+    fn list(&self, n: u8, f: usize) -> &'a [Entry<M>]
+        ensures { result.now ≡ kept_list self.now.index.now self.now.cards.now n f }
+    {
+        let row = self.row(n as usize);
+        let card = part(self.cards, 128 * n as usize, self.cards.len());
+        part(card, event_start(card.len(), f), len_at(&row.lens, f))
+    }
 }
 
-impl<'i, 'c, 'n, M: Measure> Beneath<M> for Below<'i, 'c, 'n, M> {
-    ghost faces = { λ s. faces_kept s.index.now s.names.now };
+impl<'k, 'n, M: Measure> Beneath<M> for Below<'k, 'n, M> {
+    ghost faces = { λ s. faces_kept s.kept.index.now s.names.now };
 
-    ghost cards = { λ s. cards_kept s.index.now s.cards.now s.names.now };
+    ghost cards = { λ s. cards_kept s.kept.index.now s.kept.cards.now s.names.now };
 
     ghost runs = { λ _ _ _ _ _. ⊥ };
 
     fn face(&self, i: usize) -> Face {
-        let row = row_at(self.index, name_at(self.names, i) as usize);
+        let row = self.kept.row(name_at(self.names, i) as usize);
         Face {
             inputs: row.inputs as usize,
             outputs: row.outputs as usize,
@@ -64,6 +64,6 @@ impl<'i, 'c, 'n, M: Measure> Beneath<M> for Below<'i, 'c, 'n, M> {
     }
 
     fn card(&self, i: usize, f: usize) -> &[Entry<M>] {
-        kept_list(self.index, self.cards, name_at(self.names, i), f)
+        self.kept.list(name_at(self.names, i), f)
     }
 }

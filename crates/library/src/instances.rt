@@ -5,8 +5,8 @@ ghost use Rattle.library.specs.Books.{instance_of};
 ghost use Rattle.library.specs.Checks.{First, Never};
 ghost use Rattle.library.specs.Placing.{Beyond, Old};
 
-use crate::kept::row_at;
-use crate::row::Row;
+use crate::Kept;
+use costs::measure::Measure;
 use sheets::opened::Checked;
 use sheets::words::Item;
 
@@ -32,18 +32,6 @@ pub(crate) fn missing(sheet: &Checked<'_>, n: usize) -> Option<usize>
     None
 }
 
-// The first instance that names a block whose row is marked.
-pub(crate) fn outdated(index: &[Row], sheet: &Checked<'_>) -> Option<usize>
-    ensures { MatchOption result (Never (Old index.now (says sheet.now))) (First (Old index.now (says sheet.now))) }
-{
-    for k in 0..sheet.count(Item::Instance) {
-        if row_at(index, instance_at(sheet, k) as usize).old {
-            return Some(k);
-        }
-    }
-    None
-}
-
 // Copies the number of each instance's block into the first places of `into`, and answers how many there are.
 pub(crate) fn read_names(sheet: &Checked<'_>, into: &mut [u8]) -> usize
     requires { 16 ≤ length into.old }
@@ -55,4 +43,18 @@ pub(crate) fn read_names(sheet: &Checked<'_>, into: &mut [u8]) -> usize
         into[k] = instance_at(sheet, k);
     }
     n
+}
+
+impl<'a, M: Measure> Kept<'a, M> {
+    // The first instance that names a block whose row is marked.
+    pub(crate) fn outdated(&self, sheet: &Checked<'_>) -> Option<usize>
+        ensures { MatchOption result (Never (Old self.now.index.now (says sheet.now))) (First (Old self.now.index.now (says sheet.now))) }
+    {
+        for k in 0..sheet.count(Item::Instance) {
+            if self.row(instance_at(sheet, k) as usize).old {
+                return Some(k);
+            }
+        }
+        None
+    }
 }

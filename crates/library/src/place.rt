@@ -16,10 +16,10 @@ ghost use Rattle.library.specs.Placing.{faces_kept, cards_kept, Placeable, Unpla
 ghost use Rattle.library.specs.Refusals.{told};
 ghost use Rattle.library.specs.Tables.{blocks_kept};
 
+use crate::Kept;
 use crate::beneath::Below;
-use crate::instances::{missing, outdated, read_names};
+use crate::instances::{missing, read_names};
 use crate::refusal::Refusal;
-use crate::row::Row;
 use costs::entry::Entry;
 use costs::measure::Measure;
 use costs::reducer::Reducer;
@@ -31,63 +31,8 @@ use sheets::words::{Item, Kind};
 fn check_chart(sheet: &Checked<'_>) -> Result<(), Refusal>
     ensures { MatchResult result (λ _. NamedChart (says sheet.now)) (λ e. UnnamedChart sheet.now.width.bytes sheet.now.bytes.now (told e)) }
 {
-    match charts::names::names(sheet) {
-        Ok(()) => Ok(()),
-        Err(e) => Err(Refusal::Chart(e)),
-    }
-}
-
-// Checks 5 and 6 of a composite sheet, over the interfaces that the index holds.
-fn check_wires<M: Measure>(
-    index: &[Row],
-    cards: &[Entry<M>],
-    sheet: &Checked<'_>,
-) -> Result<(), Refusal>
-    ensures { MatchResult result (λ _. NamedNetwork (network_of (says sheet.now) (faces_kept index.now (says sheet.now).instances)) × Distinct (says sheet.now).connections) (λ e. Miswired (network_of (says sheet.now) (faces_kept index.now (says sheet.now).instances)) sheet.now.bytes.now (told e)) }
-{
-    let mut names = [0; 16];
-    let n = read_names(sheet, &mut names);
-    let below = Below {
-        index,
-        cards,
-        names: &names[..n],
-    };
-    match networks::naming::names(sheet, &below) {
-        Ok(()) => Ok(()),
-        Err(e) => Err(Refusal::Network(e)),
-    }
-}
-
-// Checks 5 and 6, by the kind of block.
-pub(crate) fn check_names<M: Measure>(
-    index: &[Row],
-    cards: &[Entry<M>],
-    sheet: &Checked<'_>,
-) -> Result<(), Refusal>
-    ensures { MatchResult result (λ _. NamedBy (faces_kept index.now (says sheet.now).instances) (says sheet.now) (says sheet.now).face.kind) (λ e. MisnamedBy (faces_kept index.now (says sheet.now).instances) sheet.now.width.bytes sheet.now.bytes.now (says sheet.now).face.kind (told e)) }
-{
-    match sheet.interface().kind {
-        Kind::Composite => check_wires(index, cards, sheet),
-        _ => check_chart(sheet),
-    }
-}
-
-// Checks 3 to 6 of a sheet, where there are n blocks.
-pub(crate) fn check_place<M: Measure>(
-    index: &[Row],
-    cards: &[Entry<M>],
-    sheet: &Checked<'_>,
-    n: usize,
-) -> Result<(), Refusal>
-    ensures { MatchResult result (λ _. Placeable (blocks_kept n index.now cards.now) (says sheet.now)) (λ e. Unplaced (blocks_kept n index.now cards.now) sheet.now.width.bytes sheet.now.bytes.now (told e)) }
-{
-    if let Some(place) = missing(sheet, n) {
-        return Err(Refusal::NoBlock { place });
-    }
-    if let Some(place) = outdated(index, sheet) {
-        return Err(Refusal::OutOfDate { place });
-    }
-    check_names(index, cards, sheet)
+    charts::names::names(sheet)?;
+    Ok(())
 }
 
 // Whether the block of instance i keeps the limits of every block: at most eight inputs, and 1 to 16 entries for each event.
@@ -133,60 +78,92 @@ fn work_chart<M: Measure, R: Reducer<M>>(
     ensures answer { (f : ℕ → Face) (c : ℕ → ℕ → List (Entry M)) → MatchResult result (λ lens. CardOver (rules M.Measure.ops M.Measure.wide M.Measure.meant R.Reducer.gives) f c (says sheet.now) (list_at card.new lens)) (λ e. StopsBy (rules M.Measure.ops M.Measure.wide M.Measure.meant R.Reducer.gives) f c (says sheet.now) (says sheet.now).face.kind (told e)) }
     ensures rows { IfOk result (λ lens. CardIn (entry_ops M.Measure.ops).zero (says sheet.now).face.inputs card.new lens) }
 {
-    match charts::card::card::<M, R>(sheet, rows, card) {
-        Ok(lens) => Ok(lens),
-        Err(e) => Err(Refusal::Chart(e)),
-    }
+    let lens = charts::card::card::<M, R>(sheet, rows, card)?;
+    Ok(lens)
 }
 
-// Works the card of a composite block over the cards of the tables.
-fn work_wires<M: Measure, R: Reducer<M>>(
-    index: &[Row],
-    cards: &[Entry<M>],
-    sheet: &Checked<'_>,
-    rows: &mut [Entry<M>],
-    card: &mut [Entry<M>],
-) -> Result<[usize; 8], Refusal>
-    requires named { NamedNetwork (network_of (says sheet.now) (faces_kept index.now (says sheet.now).instances)) }
-    requires block { (says sheet.now).face.kind ≡ Composite }
-    requires rows { 2816 ≤ length rows.old }
-    requires card { 256 ≤ length card.old }
-    ensures answer { Fit (network_of (says sheet.now) (faces_kept index.now (says sheet.now).instances)) (cards_kept index.now cards.now (says sheet.now).instances) → MatchResult result (λ lens. CardOver (rules M.Measure.ops M.Measure.wide M.Measure.meant R.Reducer.gives) (faces_kept index.now (says sheet.now).instances) (cards_kept index.now cards.now (says sheet.now).instances) (says sheet.now) (list_at card.new lens)) (λ e. StopsBy (rules M.Measure.ops M.Measure.wide M.Measure.meant R.Reducer.gives) (faces_kept index.now (says sheet.now).instances) (cards_kept index.now cards.now (says sheet.now).instances) (says sheet.now) (says sheet.now).face.kind (told e)) }
-    ensures rows { IfOk result (λ lens. CardIn (entry_ops M.Measure.ops).zero (says sheet.now).face.inputs card.new lens) }
-{
-    let mut names = [0; 16];
-    let n = read_names(sheet, &mut names);
-    let below = Below {
-        index,
-        cards,
-        names: &names[..n],
-    };
-    if !is_fit(sheet, &below) {
-        return Err(Refusal::NoBlock { place: 0 });
+impl<'a, M: Measure> Kept<'a, M> {
+    // Checks 5 and 6 of a composite sheet, over the interfaces that the index holds.
+    fn check_wires(&self, sheet: &Checked<'_>) -> Result<(), Refusal>
+        ensures { MatchResult result (λ _. NamedNetwork (network_of (says sheet.now) (faces_kept self.now.index.now (says sheet.now).instances)) × Distinct (says sheet.now).connections) (λ e. Miswired (network_of (says sheet.now) (faces_kept self.now.index.now (says sheet.now).instances)) sheet.now.bytes.now (told e)) }
+    {
+        let mut names = [0; 16];
+        let n = read_names(sheet, &mut names);
+        let below = Below {
+            kept: *self,
+            names: &names[..n],
+        };
+        networks::naming::names(sheet, &below)?;
+        Ok(())
     }
-    match networks::parted::card_in::<M, R, Below<'_, '_, '_, M>>(sheet, &below, rows, card) {
-        Ok(lens) => Ok(lens),
-        Err(e) => Err(Refusal::Network(e)),
-    }
-}
 
-// Works the card of a block whose names were checked, in 2,816 rows and in the 256 of `card`, whose first 128 then hold it, and answers the eight lengths.
-pub(crate) fn work<M: Measure, R: Reducer<M>>(
-    index: &[Row],
-    cards: &[Entry<M>],
-    sheet: &Checked<'_>,
-    rows: &mut [Entry<M>],
-    card: &mut [Entry<M>],
-) -> Result<[usize; 8], Refusal>
-    requires width { sheet.now.width.bytes ≡ M.Measure.wide }
-    requires named { NamedBy (faces_kept index.now (says sheet.now).instances) (says sheet.now) (says sheet.now).face.kind }
-    requires rows { 2816 ≤ length rows.old }
-    requires card { 256 ≤ length card.old }
-    ensures answer { Fit (network_of (says sheet.now) (faces_kept index.now (says sheet.now).instances)) (cards_kept index.now cards.now (says sheet.now).instances) → MatchResult result (λ lens. CardOver (rules M.Measure.ops M.Measure.wide M.Measure.meant R.Reducer.gives) (faces_kept index.now (says sheet.now).instances) (cards_kept index.now cards.now (says sheet.now).instances) (says sheet.now) (list_at card.new lens)) (λ e. StopsBy (rules M.Measure.ops M.Measure.wide M.Measure.meant R.Reducer.gives) (faces_kept index.now (says sheet.now).instances) (cards_kept index.now cards.now (says sheet.now).instances) (says sheet.now) (says sheet.now).face.kind (told e)) }
-    ensures rows { IfOk result (λ lens. CardIn (entry_ops M.Measure.ops).zero (says sheet.now).face.inputs card.new lens) }
-{
-    match sheet.interface().kind {
-        Kind::Composite => work_wires::<M, R>(index, cards, sheet, rows, card),
-        _ => work_chart::<M, R>(sheet, rows, card),
+    // Checks 5 and 6, by the kind of block.
+    pub(crate) fn check_names(&self, sheet: &Checked<'_>) -> Result<(), Refusal>
+        ensures { MatchResult result (λ _. NamedBy (faces_kept self.now.index.now (says sheet.now).instances) (says sheet.now) (says sheet.now).face.kind) (λ e. MisnamedBy (faces_kept self.now.index.now (says sheet.now).instances) sheet.now.width.bytes sheet.now.bytes.now (says sheet.now).face.kind (told e)) }
+    {
+        match sheet.interface().kind {
+            Kind::Composite => self.check_wires(sheet),
+            _ => check_chart(sheet),
+        }
+    }
+
+    // Checks 3 to 6 of a sheet, where there are n blocks.
+    pub(crate) fn check_place(&self, sheet: &Checked<'_>, n: usize) -> Result<(), Refusal>
+        ensures { MatchResult result (λ _. Placeable (blocks_kept n self.now.index.now self.now.cards.now) (says sheet.now)) (λ e. Unplaced (blocks_kept n self.now.index.now self.now.cards.now) sheet.now.width.bytes sheet.now.bytes.now (told e)) }
+    {
+        if let Some(place) = missing(sheet, n) {
+            return Err(Refusal::NoBlock { place });
+        }
+        if let Some(place) = self.outdated(sheet) {
+            return Err(Refusal::OutOfDate { place });
+        }
+        self.check_names(sheet)
+    }
+
+    // Works the card of a composite block over the cards of the tables.
+    fn work_wires<R: Reducer<M>>(
+        &self,
+        sheet: &Checked<'_>,
+        rows: &mut [Entry<M>],
+        card: &mut [Entry<M>],
+    ) -> Result<[usize; 8], Refusal>
+        requires named { NamedNetwork (network_of (says sheet.now) (faces_kept self.now.index.now (says sheet.now).instances)) }
+        requires block { (says sheet.now).face.kind ≡ Composite }
+        requires rows { 2816 ≤ length rows.old }
+        requires card { 256 ≤ length card.old }
+        ensures answer { Fit (network_of (says sheet.now) (faces_kept self.now.index.now (says sheet.now).instances)) (cards_kept self.now.index.now self.now.cards.now (says sheet.now).instances) → MatchResult result (λ lens. CardOver (rules M.Measure.ops M.Measure.wide M.Measure.meant R.Reducer.gives) (faces_kept self.now.index.now (says sheet.now).instances) (cards_kept self.now.index.now self.now.cards.now (says sheet.now).instances) (says sheet.now) (list_at card.new lens)) (λ e. StopsBy (rules M.Measure.ops M.Measure.wide M.Measure.meant R.Reducer.gives) (faces_kept self.now.index.now (says sheet.now).instances) (cards_kept self.now.index.now self.now.cards.now (says sheet.now).instances) (says sheet.now) (says sheet.now).face.kind (told e)) }
+        ensures rows { IfOk result (λ lens. CardIn (entry_ops M.Measure.ops).zero (says sheet.now).face.inputs card.new lens) }
+    {
+        let mut names = [0; 16];
+        let n = read_names(sheet, &mut names);
+        let below = Below {
+            kept: *self,
+            names: &names[..n],
+        };
+        if !is_fit(sheet, &below) {
+            return Err(Refusal::NoBlock { place: 0 });
+        }
+        let lens = networks::parted::card_in::<M, R, Below<'_, '_, M>>(sheet, &below, rows, card)?;
+        Ok(lens)
+    }
+
+    // Works the card of a block whose names were checked, in 2,816 rows and in the 256 of `card`, whose first 128 then hold it, and answers the eight lengths.
+    pub(crate) fn work<R: Reducer<M>>(
+        &self,
+        sheet: &Checked<'_>,
+        rows: &mut [Entry<M>],
+        card: &mut [Entry<M>],
+    ) -> Result<[usize; 8], Refusal>
+        requires width { sheet.now.width.bytes ≡ M.Measure.wide }
+        requires named { NamedBy (faces_kept self.now.index.now (says sheet.now).instances) (says sheet.now) (says sheet.now).face.kind }
+        requires rows { 2816 ≤ length rows.old }
+        requires card { 256 ≤ length card.old }
+        ensures answer { Fit (network_of (says sheet.now) (faces_kept self.now.index.now (says sheet.now).instances)) (cards_kept self.now.index.now self.now.cards.now (says sheet.now).instances) → MatchResult result (λ lens. CardOver (rules M.Measure.ops M.Measure.wide M.Measure.meant R.Reducer.gives) (faces_kept self.now.index.now (says sheet.now).instances) (cards_kept self.now.index.now self.now.cards.now (says sheet.now).instances) (says sheet.now) (list_at card.new lens)) (λ e. StopsBy (rules M.Measure.ops M.Measure.wide M.Measure.meant R.Reducer.gives) (faces_kept self.now.index.now (says sheet.now).instances) (cards_kept self.now.index.now self.now.cards.now (says sheet.now).instances) (says sheet.now) (says sheet.now).face.kind (told e)) }
+        ensures rows { IfOk result (λ lens. CardIn (entry_ops M.Measure.ops).zero (says sheet.now).face.inputs card.new lens) }
+    {
+        match sheet.interface().kind {
+            Kind::Composite => self.work_wires::<R>(sheet, rows, card),
+            _ => work_chart::<M, R>(sheet, rows, card),
+        }
     }
 }

@@ -14,68 +14,58 @@ ghost use Rattle.library.specs.Replies.{verdict, reply};
 ghost use Rattle.library.specs.Steps.{PreviewLacks, Previewing, preview as ask_preview, previewed};
 ghost use Rattle.library.specs.Tables.{lens_of, card_rows, overwritten, blocks_kept};
 
-use crate::kept::count;
-use crate::place::{check_place, work};
+use crate::Kept;
 use crate::refusal::{Refusal, Table};
-use crate::row::Row;
 use crate::tables::overwrite;
 use costs::entry::Entry;
 use costs::measure::Measure;
 use costs::reducer::Reducer;
 use sheets::opened::Checked;
 
-// Check 7 of a placed sheet, and the working; the card is written into the first 128 rows of `out`.
-fn preview_placed<M: Measure, R: Reducer<M>>(
-    index: &[Row],
-    cards: &[Entry<M>],
-    rows: &mut [Entry<M>],
-    sheet: &Checked<'_>,
-    out: &mut [Entry<M>],
-) -> Result<[usize; 8], Refusal>
-    requires width { sheet.now.width.bytes ≡ M.Measure.wide }
-    requires named { NamedBy (faces_kept index.now (says sheet.now).instances) (says sheet.now) (says sheet.now).face.kind }
-    ensures same { is_ok result ≡ false → out.new ≡ out.old }
-    ensures found { MatchResult result (Previewed (rules M.Measure.ops M.Measure.wide M.Measure.meant R.Reducer.gives) (blocks_kept 0 index.now cards.now) (says sheet.now) (lent_of (length rows.old) (length out.old)) out.old out.new) (λ e. Fit (network (blocks_kept 0 index.now cards.now) (says sheet.now)) (cards_beneath (blocks_kept 0 index.now cards.now) (says sheet.now)) → Then (FirstAt 7 (PreviewLacks (lent_of (length rows.old) (length out.old)))) (Never (PreviewLacks (lent_of (length rows.old) (length out.old)))) (Working (rules M.Measure.ops M.Measure.wide M.Measure.meant R.Reducer.gives) (blocks_kept 0 index.now cards.now) (says sheet.now)) (turned (told e))) }
-{
-    if rows.len() < 3072 {
-        return Err(Refusal::NoRoom { table: Table::Rows });
-    }
-    if out.len() < 128 {
-        return Err(Refusal::NoRoom { table: Table::Out });
-    }
-    let (space, card) = rows.split_at_mut(2816);
-    match work::<M, R>(index, cards, sheet, space, card) {
-        Err(e) => Err(e),
-        Ok(lens) => {
-            let (front, _) = card.split_at(128);
-            overwrite(out, 0, front);
-            Ok(lens)
+impl<'a, M: Measure> Kept<'a, M> {
+    // Check 7 of a placed sheet, and the working; the card is written into the first 128 rows of `out`.
+    fn preview_placed<R: Reducer<M>>(
+        &self,
+        rows: &mut [Entry<M>],
+        sheet: &Checked<'_>,
+        out: &mut [Entry<M>],
+    ) -> Result<[usize; 8], Refusal>
+        requires width { sheet.now.width.bytes ≡ M.Measure.wide }
+        requires named { NamedBy (faces_kept self.now.index.now (says sheet.now).instances) (says sheet.now) (says sheet.now).face.kind }
+        ensures same { is_ok result ≡ false → out.new ≡ out.old }
+        ensures found { MatchResult result (Previewed (rules M.Measure.ops M.Measure.wide M.Measure.meant R.Reducer.gives) (blocks_kept 0 self.now.index.now self.now.cards.now) (says sheet.now) (lent_of (length rows.old) (length out.old)) out.old out.new) (λ e. Fit (network (blocks_kept 0 self.now.index.now self.now.cards.now) (says sheet.now)) (cards_beneath (blocks_kept 0 self.now.index.now self.now.cards.now) (says sheet.now)) → Then (FirstAt 7 (PreviewLacks (lent_of (length rows.old) (length out.old)))) (Never (PreviewLacks (lent_of (length rows.old) (length out.old)))) (Working (rules M.Measure.ops M.Measure.wide M.Measure.meant R.Reducer.gives) (blocks_kept 0 self.now.index.now self.now.cards.now) (says sheet.now)) (turned (told e))) }
+    {
+        if rows.len() < 3072 {
+            return Err(Refusal::NoRoom { table: Table::Rows });
         }
+        if out.len() < 128 {
+            return Err(Refusal::NoRoom { table: Table::Out });
+        }
+        let (space, card) = rows.split_at_mut(2816);
+        let lens = self.work::<R>(sheet, space, card)?;
+        let (front, _) = card.split_at(128);
+        overwrite(out, 0, front);
+        Ok(lens)
     }
-}
 
-// The card that entering the sheet would keep, in the caller's first 128 rows, and the lengths of its eight lists; the library and the other rows stay.
-// It works in 3,072 rows lent, which afterwards hold anything; on a refusal the caller's rows stay.
-pub fn preview<M: Measure, R: Reducer<M>>(
-    shelf: &[u8],
-    index: &[Row],
-    cards: &[Entry<M>],
-    rows: &mut [Entry<M>],
-    sheet: &Checked<'_>,
-    out: &mut [Entry<M>],
-) -> Result<[usize; 8], Refusal>
-    ensures same { is_ok result ≡ false → out.new ≡ out.old }
-    ensures answer { (b : Book M) → Stands (rules M.Measure.ops M.Measure.wide M.Measure.meant R.Reducer.gives) b shelf.now index.now cards.now → Previewing (rules M.Measure.ops M.Measure.wide M.Measure.meant R.Reducer.gives) b (lent_of (length rows.old) (length out.old)) sheet.now.width.bytes sheet.now.bytes.now (verdict (list_at out.new) result) }
-    ensures rows { MatchResult result (λ lens. (out.new ≡ overwritten out.old 0 (card_rows (entry_ops M.Measure.ops).zero (list_at out.new lens))) × (lens ≡ lens_of (list_at out.new lens))) (λ _. out.new ≡ out.old) }
-    ensures book { GoesOn (rules M.Measure.ops M.Measure.wide M.Measure.meant R.Reducer.gives) (ask_preview sheet.now.width.bytes sheet.now.bytes.now) (lent_of (length rows.old) (length out.old)) (reply (λ lens. previewed (list_at out.new lens)) result) shelf.now index.now cards.now shelf.now index.now cards.now }
-{
-    let given = sheet.width().bytes;
-    if given != M::width() {
-        return Err(Refusal::Width { given });
-    }
-    let n = count(index);
-    match check_place(index, cards, sheet, n) {
-        Err(e) => Err(e),
-        Ok(()) => preview_placed::<M, R>(index, cards, rows, sheet, out),
+    // The card that entering the sheet would keep, in the caller's first 128 rows, and the lengths of its eight lists; the library and the other rows stay.
+    // It works in 3,072 rows lent, which afterwards hold anything; on a refusal the caller's rows stay.
+    pub fn preview<R: Reducer<M>>(
+        &self,
+        rows: &mut [Entry<M>],
+        sheet: &Checked<'_>,
+        out: &mut [Entry<M>],
+    ) -> Result<[usize; 8], Refusal>
+        ensures same { is_ok result ≡ false → out.new ≡ out.old }
+        ensures answer { (b : Book M) → Stands (rules M.Measure.ops M.Measure.wide M.Measure.meant R.Reducer.gives) b self.now.shelf.now self.now.index.now self.now.cards.now → Previewing (rules M.Measure.ops M.Measure.wide M.Measure.meant R.Reducer.gives) b (lent_of (length rows.old) (length out.old)) sheet.now.width.bytes sheet.now.bytes.now (verdict (list_at out.new) result) }
+        ensures rows { MatchResult result (λ lens. (out.new ≡ overwritten out.old 0 (card_rows (entry_ops M.Measure.ops).zero (list_at out.new lens))) × (lens ≡ lens_of (list_at out.new lens))) (λ _. out.new ≡ out.old) }
+        ensures book { GoesOn (rules M.Measure.ops M.Measure.wide M.Measure.meant R.Reducer.gives) (ask_preview sheet.now.width.bytes sheet.now.bytes.now) (lent_of (length rows.old) (length out.old)) (reply (λ lens. previewed (list_at out.new lens)) result) self.now.shelf.now self.now.index.now self.now.cards.now self.now.shelf.now self.now.index.now self.now.cards.now }
+    {
+        let given = sheet.width().bytes;
+        if given != M::width() {
+            return Err(Refusal::Width { given });
+        }
+        self.check_place(sheet, self.count())?;
+        self.preview_placed::<R>(rows, sheet, out)
     }
 }

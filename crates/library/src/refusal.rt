@@ -1,4 +1,7 @@
 // Why a call is turned down.
+ghost use Rattle.std.specs.Prelude.{◌≡◌};
+ghost use Rattle.library.specs.declared.refusal.Refusal.TheVariants.{Sheet, Chart, Network, NoRoom};
+
 use charts::refusal::Refusal as ChartRefusal;
 use networks::refusal::Refusal as NetworkRefusal;
 use sheets::refusal::Refusal as SheetRefusal;
@@ -33,4 +36,36 @@ pub enum Refusal {
     NoNumber { number: usize },
     // a table is too short
     NoRoom { table: Table },
+}
+
+impl From<SheetRefusal> for Refusal {
+    ghost from_gives = { λ e r. r ≡ Sheet e };
+
+    fn from(e: SheetRefusal) -> Refusal {
+        Refusal::Sheet(e)
+    }
+}
+
+impl From<ChartRefusal> for Refusal {
+    ghost from_gives = { λ e r. r ≡ Chart e };
+
+    fn from(e: ChartRefusal) -> Refusal {
+        Refusal::Chart(e)
+    }
+}
+
+impl From<NetworkRefusal> for Refusal {
+    ghost from_gives = { λ e r. r ≡ Network e };
+
+    fn from(e: NetworkRefusal) -> Refusal {
+        Refusal::Network(e)
+    }
+}
+
+impl From<Table> for Refusal {
+    ghost from_gives = { λ table r. r ≡ NoRoom table };
+
+    fn from(table: Table) -> Refusal {
+        Refusal::NoRoom { table }
+    }
 }

@@ -12,13 +12,13 @@ use Rattle.library.proofs.place.work_chart.Goals as goal
 no_face : Face
 no_face = record { inputs = 0; outputs = 0 }
 
-pub returns-in-Ok : goal.returns-in-Ok
-returns-in-Ok g c =
+pub returns : goal.returns
+returns g c =
     let sheet = c.args.sheet.now in
     let s = says sheet in
     let R = rules g.M.Measure.ops g.M.Measure.wide g.M.Measure.meant g.R.Reducer.gives in
-    let e = c.in-Ok.ensures in
-    let lens = c.in-Ok.lens in
+    let e = c.in_ok-lens.ensures in
+    let lens = c.in_ok-lens.lens in
     let out = c.card.new.out in
     let form = form_of sheet.width.bytes sheet.bytes.now sheet.right in
     let eight : length lens ≡ 8 = search usual in
