@@ -1,5 +1,5 @@
 // What lies beneath a composite, by the tables: the rows and cards of the blocks that its instances name. Every reader answers on any memory.
-ghost use Rattle.std.specs.Prelude.{◌≡◌, ◌*◌, min, slice_index, slice_index_or};
+ghost use Rattle.std.specs.Prelude.{◌≡◌, ◌*◌, min, slice_index_or};
 ghost use Rattle.library.specs.Placing.{faces_kept, cards_kept};
 ghost use Rattle.library.specs.Tables.{kept_list};
 
@@ -16,25 +16,11 @@ pub(crate) struct Below<'k, 'n, M> {
     pub(crate) names: &'n [u8],
 }
 
-// The number of instance i's block; 255, which is no block, where there is none.
-fn name_at(names: &[u8], i: usize) -> u8
-    ensures { result ≡ slice_index_or names.now i 255 }
-{
-    if i < names.len() { names[i] } else { 255 }
-}
-
-// How many entries the list of event f has.
-fn len_at(lens: &[usize], f: usize) -> usize
-    ensures { result ≡ slice_index lens.now f }
-{
-    if f < lens.len() { lens[f] } else { 0 }
-}
-
 // Where the rows of event f begin, 16 for each event, or the end.
 fn event_start(rows: usize, f: usize) -> usize
     ensures { result ≡ min (16 * f) rows }
 {
-    if f <= rows / 16 { 16 * f } else { rows }
+    f.saturating_mul(16).min(rows)
 }
 
 impl<'a, M: Measure> Kept<'a, M> {
@@ -44,7 +30,20 @@ impl<'a, M: Measure> Kept<'a, M> {
     {
         let row = self.row(n as usize);
         let card = part(self.cards, 128 * n as usize, self.cards.len());
-        part(card, event_start(card.len(), f), len_at(&row.lens, f))
+        part(
+            card,
+            event_start(card.len(), f),
+            row.lens.get(f).copied().unwrap_or(0),
+        )
+    }
+}
+
+impl<'k, 'n, M> Below<'k, 'n, M> {
+    // The number of instance i's block; 255, which is no block of 64, past the last: what the definitions say of such an instance is said of that row.
+    fn name(&self, i: usize) -> u8
+        ensures { result ≡ slice_index_or self.now.names.now i 255 }
+    {
+        self.names.get(i).copied().unwrap_or(255)
     }
 }
 
@@ -56,7 +55,7 @@ impl<'k, 'n, M: Measure> Beneath<M> for Below<'k, 'n, M> {
     ghost runs = { λ _ _ _ _ _. ⊥ };
 
     fn face(&self, i: usize) -> Face {
-        let row = self.kept.row(name_at(self.names, i) as usize);
+        let row = self.kept.row(self.name(i) as usize);
         Face {
             inputs: row.inputs as usize,
             outputs: row.outputs as usize,
@@ -64,6 +63,6 @@ impl<'k, 'n, M: Measure> Beneath<M> for Below<'k, 'n, M> {
     }
 
     fn card(&self, i: usize, f: usize) -> &[Entry<M>] {
-        self.kept.list(name_at(self.names, i), f)
+        self.kept.list(self.name(i), f)
     }
 }

@@ -51,7 +51,7 @@ impl<'a> Call<'a> {
 }
 
 // What an accepted call answers; the lists of a preview and of a card stand in the caller's rows.
-#[derive(Clone, Copy)]
+#[derive(Clone, Copy, PartialEq, Eq, Debug)]
 pub enum Accepted {
     // the number of the new block
     Entered { block: usize },

@@ -1,5 +1,5 @@
 // Looking at a card.
-ghost use Rattle.std.specs.Prelude.{◌≡◌, ℕ, true, false, List, length, take, is_ok, Ok, slice_index};
+ghost use Rattle.std.specs.Prelude.{◌≡◌, ℕ, true, false, List, length, take, is_ok, Ok};
 ghost use Rattle.costs.specs.Entries.{entry_ops};
 ghost use Rattle.library.specs.Books.{Book, rules, at};
 ghost use Rattle.library.specs.Law.{GoesOn};
@@ -10,19 +10,10 @@ ghost use Rattle.library.specs.Tables.{overwritten, padded};
 
 use crate::Kept;
 use crate::refusal::{Refusal, Table};
-use crate::row::Row;
 use crate::tables::{overwrite, part};
 use costs::entry::Entry;
 use costs::measure::Measure;
 use costs::reducer::Reducer;
-
-// How many entries the list of an event has, as its row says; none past the eighth.
-fn length_of(row: Row, event: usize) -> usize
-    ensures { result ≡ slice_index row.lens event }
-{
-    let lens: &[usize] = &row.lens;
-    if event < lens.len() { lens[event] } else { 0 }
-}
 
 impl<'a, M: Measure> Kept<'a, M> {
     // Copies the 16 rows of an event of a current card to the caller's first 16, and answers how many entries its list has.
@@ -52,6 +43,6 @@ impl<'a, M: Measure> Kept<'a, M> {
             return Err(Refusal::NoRoom { table: Table::Out });
         }
         overwrite(out, 0, part(self.cards, 128 * block + 16 * event, 16));
-        Ok(length_of(row, event))
+        Ok(row.lens.get(event).copied().unwrap_or(0))
     }
 }

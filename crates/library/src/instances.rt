@@ -1,7 +1,6 @@
 // Checks 3 and 4: the first instance whose block is not there, and the first whose block's card is out of date.
-ghost use Rattle.std.specs.Prelude.{◌≡◌, ◌≤◌, length, take, MatchOption};
+ghost use Rattle.std.specs.Prelude.{◌≡◌, ◌≤◌, length, take, Decides, MatchOption};
 ghost use Rattle.charts.specs.Naming.{says};
-ghost use Rattle.library.specs.Books.{instance_of};
 ghost use Rattle.library.specs.Checks.{First, Never};
 ghost use Rattle.library.specs.Placing.{Beyond, Old};
 
@@ -10,26 +9,18 @@ use costs::measure::Measure;
 use sheets::opened::Checked;
 use sheets::words::Item;
 
-// The block that instance k names; 255, which is no block, where there is no such instance.
-fn instance_at(sheet: &Checked<'_>, k: usize) -> u8
-    ensures { result ≡ instance_of (says sheet.now) k }
+// Whether there is an instance k, and it names no block below n.
+fn is_beyond(sheet: &Checked<'_>, k: usize, n: usize) -> bool
+    ensures { Decides result (Beyond n (says sheet.now) k) }
 {
-    match sheet.instance(k) {
-        Some(n) => n,
-        None => 255,
-    }
+    sheet.instance(k).is_some_and(|block| n <= block as usize)
 }
 
 // The first instance that names no block below n.
 pub(crate) fn missing(sheet: &Checked<'_>, n: usize) -> Option<usize>
     ensures { MatchOption result (Never (Beyond n (says sheet.now))) (First (Beyond n (says sheet.now))) }
 {
-    for k in 0..sheet.count(Item::Instance) {
-        if instance_at(sheet, k) as usize >= n {
-            return Some(k);
-        }
-    }
-    None
+    (0..sheet.count(Item::Instance)).find(|k| is_beyond(sheet, *k, n))
 }
 
 // Copies the number of each instance's block into the first places of `into`, and answers how many there are.
@@ -40,21 +31,30 @@ pub(crate) fn read_names(sheet: &Checked<'_>, into: &mut [u8]) -> usize
 {
     let n = sheet.count(Item::Instance);
     for k in 0..n {
-        into[k] = instance_at(sheet, k);
+        into[k] = sheet.instance(k).unwrap();
     }
     n
 }
 
 impl<'a, M: Measure> Kept<'a, M> {
+    // Whether there is an instance k, and it names a block whose row is marked.
+    fn is_behind(&self, sheet: &Checked<'_>, k: usize) -> bool
+        ensures { Decides result (Old self.now.index.now (says sheet.now) k) }
+    {
+        let Some(block) = sheet.instance(k) else {
+            return false;
+        };
+        self.row(block as usize).old
+    }
+
     // The first instance that names a block whose row is marked.
     pub(crate) fn outdated(&self, sheet: &Checked<'_>) -> Option<usize>
         ensures { MatchOption result (Never (Old self.now.index.now (says sheet.now))) (First (Old self.now.index.now (says sheet.now))) }
     {
-        for k in 0..sheet.count(Item::Instance) {
-            if self.row(instance_at(sheet, k) as usize).old {
-                return Some(k);
-            }
-        }
-        None
+        (0..sheet.count(Item::Instance)).find(
+            |k: &usize| -> bool
+                ensures { Decides result (Old self.entry.now.index.now (says sheet.entry.now) k.now) }
+            { self.is_behind(sheet, *k) },
+        )
     }
 }

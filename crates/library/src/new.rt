@@ -8,7 +8,6 @@ ghost use Rattle.library.specs.Memory.{Stands};
 ghost use Rattle.library.specs.Tables.{no_row};
 
 use crate::Library;
-use crate::readers::no_row;
 use crate::row::Row;
 use crate::tables::fill;
 use costs::entry::Entry;
@@ -45,8 +44,8 @@ impl<'a, M: Measure> Library<'a, M> {
         ensures cards { self.new.cards.now ≡ replicate (length self.old.cards.now) (entry_ops M.Measure.ops).zero }
         ensures book { Stands (rules M.Measure.ops M.Measure.wide M.Measure.meant R.Reducer.gives) empty self.new.shelf.now self.new.index.now self.new.cards.now × Sound (rules M.Measure.ops M.Measure.wide M.Measure.meant R.Reducer.gives) empty self.new.index.now self.new.cards.now }
     {
-        fill(self.shelf, 0);
-        fill(self.index, no_row());
+        self.shelf.fill(0);
+        self.index.fill(Row::unused());
         fill(self.cards, Entry::zero());
     }
 }

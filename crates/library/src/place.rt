@@ -35,33 +35,27 @@ fn check_chart(sheet: &Checked<'_>) -> Result<(), Refusal>
     Ok(())
 }
 
+// Whether the list of that event of instance i has 1 to 16 entries.
+fn is_list<M: Measure, B: Beneath<M>>(beneath: &B, i: usize, f: usize) -> bool
+    ensures { Decides result (Sized (B.cards beneath.now i f)) }
+{
+    let len = beneath.card(i, f).len();
+    1 <= len && len <= 16
+}
+
 // Whether the block of instance i keeps the limits of every block: at most eight inputs, and 1 to 16 entries for each event.
 fn is_block<M: Measure, B: Beneath<M>>(beneath: &B, i: usize) -> bool
     ensures { Decides result (((B.faces beneath.now i).inputs ≤ 8) × ((f : ℕ) → f < (B.faces beneath.now i).inputs → Sized (B.cards beneath.now i f))) }
 {
     let inputs = beneath.face(i).inputs;
-    if inputs > 8 {
-        return false;
-    }
-    for f in 0..inputs {
-        let len = beneath.card(i, f).len();
-        if len < 1 || len > 16 {
-            return false;
-        }
-    }
-    true
+    inputs <= 8 && (0..inputs).all(|f| is_list(beneath, i, f))
 }
 
 // Whether all blocks beneath do. Only tables that `new` did not begin can have another.
 fn is_fit<M: Measure, B: Beneath<M>>(sheet: &Checked<'_>, beneath: &B) -> bool
     ensures { Decides result (Fit (network_of (says sheet.now) (B.faces beneath.now)) (B.cards beneath.now)) }
 {
-    for i in 0..sheet.count(Item::Instance) {
-        if !is_block(beneath, i) {
-            return false;
-        }
-    }
-    true
+    (0..sheet.count(Item::Instance)).all(|i| is_block(beneath, i))
 }
 
 // Works the card of a basic or a service block.

@@ -3,7 +3,7 @@ ghost use Rattle.std.specs.Prelude.{◌≡◌, false, ◌&&◌, is_ok, MatchOpti
 ghost use Rattle.sheets.specs.Refusals.{framing_of, check_of};
 ghost use Rattle.sheets.specs.Sheets.{sheet_of};
 ghost use Rattle.library.specs.Marks.{Counted, kept_bytes, kept_names, leans};
-ghost use Rattle.library.specs.Tables.{no_row, row_at};
+ghost use Rattle.library.specs.Tables.{row_at};
 
 use crate::row::Row;
 use crate::tables::part;
@@ -12,21 +12,6 @@ use costs::measure::Measure;
 use sheets::opened::Checked;
 use sheets::width::Width;
 use sheets::words::Item;
-
-// A row that no block has.
-pub(crate) fn no_row() -> Row
-    ensures { result ≡ no_row }
-{
-    Row {
-        used: false,
-        start: 0,
-        len: 0,
-        inputs: 0,
-        outputs: 0,
-        lens: [0; 8],
-        old: false,
-    }
-}
 
 // The width of the measure's amounts.
 pub(crate) fn width<M: Measure>() -> Width
@@ -66,11 +51,7 @@ impl<'a, M: Measure> Kept<'a, M> {
     pub(crate) fn row(&self, n: usize) -> Row
         ensures { result ≡ row_at self.now.index.now n }
     {
-        if n < self.index.len() {
-            self.index[n]
-        } else {
-            no_row()
-        }
+        self.index.get(n).copied().unwrap_or(Row::unused())
     }
 
     // The sheet that a row stands for, as far as the shelf goes; none if these bytes make no sheet.

@@ -7,7 +7,7 @@ use networks::refusal::Refusal as NetworkRefusal;
 use sheets::refusal::Refusal as SheetRefusal;
 
 // What there is no room in.
-#[derive(Clone, Copy)]
+#[derive(Clone, Copy, PartialEq, Eq, Debug)]
 pub enum Table {
     Shelf,
     Index,

@@ -1,7 +1,10 @@
 // The index: a row for each block.
+ghost use Rattle.std.specs.Prelude.{◌≡◌};
+ghost use Rattle.library.specs.Tables.{no_row};
 
-#[derive(Clone, Copy)]
+#[derive(Clone, Copy, PartialEq, Eq, Debug)]
 pub struct Row {
+    // a block has it; the caller lends rows before it knows how many blocks come
     pub used: bool,
     // where the sheet begins on the shelf, and its length, in bytes
     pub start: usize,
@@ -13,4 +16,21 @@ pub struct Row {
     pub lens: [usize; 8],
     // the card is out of date
     pub old: bool,
+}
+
+impl Row {
+    // A row that no block has.
+    pub fn unused() -> Row
+        ensures { result ≡ no_row }
+    {
+        Row {
+            used: false,
+            start: 0,
+            len: 0,
+            inputs: 0,
+            outputs: 0,
+            lens: [0; 8],
+            old: false,
+        }
+    }
 }

@@ -6,9 +6,8 @@ ghost use Rattle.library.specs.Tables.{overwritten};
 pub(crate) fn part<T>(table: &[T], start: usize, len: usize) -> &[T]
     ensures { result.now ≡ take len (drop start table.now) }
 {
-    let (_, rest) = table.split_at(start.min(table.len()));
-    let (rows, _) = rest.split_at(len.min(rest.len()));
-    rows
+    let rest = &table[start.min(table.len())..];
+    &rest[..len.min(rest.len())]
 }
 
 // Writes other rows in the place of those from `at` on.
@@ -19,7 +18,7 @@ pub(crate) fn overwrite<T: Copy>(table: &mut [T], at: usize, new: &[T])
     table[at..at + new.len()].copy_from_slice(new);
 }
 
-// Writes the same value into every row.
+// Writes the same value into every row. `fill` of std asks that a clone of the value cannot fail, and of a measure's amounts that is not known.
 pub(crate) fn fill<T: Copy>(table: &mut [T], value: T)
     ensures { table.new ≡ replicate (length table.old) value }
 {

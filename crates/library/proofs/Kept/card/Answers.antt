@@ -1,5 +1,5 @@
 -- Each refusal leaves all as it was; an accepted look shows the book's list.
-use Rattle.std.proofs.Common.{◌≡◌, ◌+◌, ◌*◌, ◌<◌, ◌≤◌, length, get_or, take, drop, Ok, refl, ap, ◌∙◌, arith}
+use Rattle.std.proofs.Common.{◌≡◌, ◌+◌, ◌*◌, ◌<◌, ◌≤◌, length, get_or, take, drop, Ok, refl, ap, ◌∙◌, arith, rules as found}
 use Rattle.std.proofs.lemmas.Bool.{true≢false, false≢true}
 use Rattle.library.specs.Books.{rules}
 use Rattle.library.specs.Steps.{no_card, shows}
@@ -81,7 +81,7 @@ returns g c =
     let shown : c.part.result.now ≡ take 16 (drop (128 * c.args.block + 16 * c.args.event) c.args.self.now.cards.now) = c.part.ensures in
     let copied : c.overwrite.new.table ≡ overwritten c.args.out.now 0 (take 16 (drop (128 * c.args.block + 16 * c.args.event) c.args.self.now.cards.now)) =
     c.overwrite.ensures ∙ ap (overwritten c.args.out.now 0) shown in
-    let len : c.length_of.result ≡ get_or c.row-row.result.lens c.args.event 0 = c.length_of.ensures in
+    let len : c.unwrap_or.result ≡ get_or c.row-row.result.lens c.args.event 0 = search found in
     record {
       same = λ no_way. absurd (true≢false no_way);
       answer = λ b shelf rows st. card_shown law _ _ _ _ _ rows st _ count below _ is current event room _ copied _ len;

@@ -1,16 +1,13 @@
--- The instance that stops the walk is the first.
-use Rattle.std.proofs.Common.{arith, below_more}
+-- The instance that is found is the first.
+use Rattle.std.proofs.Common.{rules, tests, arith}
+use Rattle.std.proofs.lemmas.Iterator.{first_from_Range}
+use Rattle.charts.specs.Naming.{says}
+use Rattle.library.specs.Placing.{Beyond}
+use Rattle.library.proofs.Finding.{first_found}
 use Rattle.library.proofs.instances.missing.Goals as goal
 
-pub returns-then-instance_at-n : goal.returns-then-instance_at-n
-returns-then-instance_at-n c =
-    record {
-      holds = record { instance = omega (arith, c.count-k-end.ensures); beyond = omega (arith, c.instance_at.ensures) };
-      before = c.loop-k.invariant;
-    }
-
-pub loop-k-preserved : goal.loop-k-preserved
-loop-k-preserved c = below_more _ _ c.loop-k.invariant (λ p. omega (arith, p.beyond, c.instance_at.ensures))
-
 pub returns : goal.returns
-returns c = λ j p. c.loop-k.invariant j (omega (arith, p.instance, c.count-k-end.ensures)) p
+returns c =
+    let Here = Beyond c.args.n (says c.args.sheet.now) in
+    first_found _ c.find.result (λ k p. omega (arith, p.instance, c.count.ensures))
+    (first_from_Range _ _ _ c.find.result Here (λ k. Here k → ⊥) c.find.ensures.ran (λ x q k. search (rules, tests)) (λ x q k. search (rules, tests)))

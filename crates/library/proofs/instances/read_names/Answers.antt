@@ -1,9 +1,15 @@
 -- A checked sheet has at most 16 instances.
 use Rattle.std.proofs.Common.{◌≡◌, [], ◌∷◌, ◌++◌, take, sym, refl, ap, ◌∙◌, arith}
+use Rattle.std.specs.Option.{is_some}
+use Rattle.std.proofs.lemmas.Option.{slice_get-get_or}
 use Rattle.std.proofs.lemmas.List.{take_more, take_more_set, take_all}
 use Rattle.sheets.proofs.Forms.{form_of}
 use Rattle.charts.specs.Naming.{says}
+use Rattle.library.proofs.Finding.{nth_found}
 use Rattle.library.proofs.instances.read_names.Goals as goal
+
+pub unwrap-requires : goal.unwrap-requires
+unwrap-requires c = ap is_some (c.instance.ensures ∙ slice_get-get_or (says c.args.sheet.now).instances c.loop-k.k 255 (omega (arith, c.count-n.ensures)))
 
 pub loop-k-init : goal.loop-k-init
 loop-k-init c =
@@ -16,8 +22,8 @@ loop-k-preserved c =
     let l = c.loop-k in
     let ns = (says c.args.sheet.now).instances in (
       l.invariant.0,
-      take_more_set l.into l.k c.instance_at.result (omega arith) ∙ ap (λ xs. xs ++ c.instance_at.result ∷ []) l.invariant.1
-          ∙ ap (λ x. take l.k ns ++ x ∷ []) c.instance_at.ensures ∙ sym (take_more ns l.k 255 (omega (arith, c.count-n.ensures))),
+      take_more_set l.into l.k c.unwrap.result (omega arith) ∙ ap (λ xs. xs ++ c.unwrap.result ∷ []) l.invariant.1
+          ∙ ap (λ x. take l.k ns ++ x ∷ []) (nth_found ns l.k 255 c.unwrap.result (sym c.instance.ensures ∙ c.unwrap.ensures)) ∙ sym (take_more ns l.k 255 (omega (arith, c.count-n.ensures))),
     )
 
 pub returns : goal.returns
