@@ -1,12 +1,14 @@
 -- When one of some blocks is marked. Assumes nothing.
-use Rattle.std.proofs.Common.{◌≡◌, ℕ, zero, suc, ◌+◌, ◌<◌, ◌≤◌, Bool, true, false, ◌&&◌, ltb, List, [], ◌∷◌, length, get_or, Some, sym, refl, ap, ◌∙◌, subst, ⊎_elim, arith}
-use Rattle.costs.specs.Lists.{Among}
-use Rattle.std.specs.List.{slice_get}
+use Rattle.std.proofs.Common.{◌≡◌, ℕ, zero, suc, ◌<◌, ◌≤◌, Bool, true, false, ◌&&◌, ltb, List, [], ◌∷◌, length, get_or, Option, Some, None, sym, refl, ◌∙◌, subst, zero-add, arith, Decides, MatchBool, MatchOption}
+use Rattle.std.specs.List.{slice_get, AllWithin, HoldsAt, range_with_len}
+use Rattle.std.proofs.lemmas.List.{get_or_default}
+use Rattle.std.proofs.lemmas.List.FromFn.{length-range_with_len, get_or-range_with_len}
 use Rattle.std.proofs.lemmas.Option.{slice_get-get_or}
-use Rattle.std.proofs.lemmas.Bool.{cases_eq, and_left, and_right, le-ltb}
-use Rattle.library.specs.Marks.{leans}
+use Rattle.std.proofs.lemmas.Bool.{false≢true, and_parts, and_from, lt-ltb, ltb-true, false_from_ne_true}
+use Rattle.library.specs.Marks.{leans, NamesMarked}
 use Rattle.library.specs.Tables.{row_at}
 use Rattle.library.specs.declared.row.Row.{Row}
+use Rattle.library.proofs.Finding.{nth_found, nth_within}
 use Rattle.library.proofs.Marks.{leans_by}
 use Rattle.library.proofs.Books.{among_at}
 
@@ -24,23 +26,30 @@ module _ (index : List Row) (n : ℕ) where
   leans_none (k ∷ ks) zero all h = absurd (omega arith)
   leans_none (k ∷ ks) (suc m) all h = rw (h 0 (omega arith) (omega arith)) (leans_none ks m (omega arith) (λ j l w. h (suc j) (omega (arith, l)) (omega (arith, w))))
 
-  pub none_more : (ks : List ℕ) (m : ℕ) → NoneMarked index n ks m → (m < length ks → marks_below index n (get_or ks m 0) ≡ false) → NoneMarked index n ks (m + 1)
-  none_more ks m h here j l w = ⊎_elim (λ e. subst (λ x. marks_below index n (get_or ks x 0) ≡ false) (sym e) (here (omega (arith, w, e)))) (λ ne. h j (omega (arith, l, ne)) w) (cases_eq j m)
+-- whether name i is of a marked block below n
+pub marked_decided : (index : List Row) (n : ℕ) (ks : List ℕ) (i : ℕ) (o : Option ℕ) (r : Bool) → o ≡ slice_get ks i → MatchOption o (r ≡ false) (λ k. r ≡ marks_below index n k) → Decides r (NamesMarked index n ks i)
+marked_decided index n ks i (Some k) r e h =
+    let is : k ≡ get_or ks i 255 = nth_found ks i 255 k (sym e) in (
+      λ t. let p = and_parts _ _ (sym h ∙ t) in
+          record { name = nth_within ks i 0 k (sym e); below = subst (λ m. m < n) is (ltb-true k n p.0); marked = subst (λ m. (row_at index m).old ≡ true) is p.1 },
+      λ p. h ∙ and_from _ _ (lt-ltb k n (subst (λ m. m < n) (sym is) p.below)) (subst (λ m. (row_at index m).old ≡ true) (sym is) p.marked),
+    )
+marked_decided index n ks i None r e h = (
+  λ t. absurd (false≢true (sym h ∙ t)),
+  λ p. let q = slice_get-get_or ks i 255 p.name in let z : ◌≡◌ {A = ℕ} 0 1 = cc in absurd (omega arith),
+)
 
-pub nth_is : (ks : List ℕ) (i k : ℕ) → i < length ks → slice_get ks i ≡ Some k → get_or ks i 0 ≡ k
-nth_is ks i k l e = let p = slice_get-get_or ks i 0 l in cc
-
-module _ (index : List Row) (n : ℕ) (ks : List ℕ) (i k : ℕ) (lt : i < length ks) (is : slice_get ks i ≡ Some k) where
-  -- instance i names a marked block
-  pub leans_at : (r : Row) → k < n → r ≡ row_at index k → r.old ≡ true → leans index n ks ≡ true
-  leans_at r below e old =
-      leans_by index n k ks (subst (λ x. Among x ks) (nth_is ks i k lt is) (among_at ks i 0 lt)) below (ap (λ (x : Row). x.old) (sym e) ∙ old)
-
-  none_at : NoneMarked index n ks i → marks_below index n k ≡ false → NoneMarked index n ks (i + 1)
-  none_at h free = none_more index n ks i h (λ _. subst (λ x. marks_below index n x ≡ false) (sym (nth_is ks i k lt is)) free)
-
-  pub none_marked : NoneMarked index n ks i → (r : Row) → r ≡ row_at index k → r.old ≡ false → NoneMarked index n ks (i + 1)
-  none_marked h r e free = none_at h (and_right _ _ (ap (λ (x : Row). x.old) (sym e) ∙ free))
-
-  pub none_above : NoneMarked index n ks i → n ≤ k → NoneMarked index n ks (i + 1)
-  none_above h above = none_at h (and_left _ _ (le-ltb k n above))
+-- what `any` over all names found
+pub leans_any : (index : List Row) (n : ℕ) (ks : List ℕ) (m : ℕ) → m ≡ length ks → (r : Bool)
+    → MatchBool r ((k : ℕ) × (k < length (range_with_len 0 m)) × HoldsAt (NamesMarked index n ks) (range_with_len 0 m) k) (AllWithin (λ j. NamesMarked index n ks j → ⊥) (range_with_len 0 m) 0 (length (range_with_len 0 m)))
+    → r ≡ leans index n ks
+leans_any index n ks m all true (k, below, holds) =
+    let low : k < m = omega (arith, length-range_with_len 0 m) in
+    let p = subst (NamesMarked index n ks) (get_or-range_with_len 0 m k 0 low ∙ zero-add k) (holds 0) in
+    sym (leans_by index n _ ks (among_at ks k 255 p.name) p.below p.marked)
+leans_any index n ks m all false h =
+    sym (leans_none index n ks m (omega arith) (λ j l w. false_from_ne_true _ (λ e.
+    let p = and_parts _ _ e in
+    let is = get_or_default ks j 0 255 w in
+    subst (λ i. NamesMarked index n ks i → ⊥) (get_or-range_with_len 0 m j 0 l ∙ zero-add j) (h j 0 (omega arith) (omega (arith, length-range_with_len 0 m)))
+    (record { name = w; below = subst (λ x. x < n) is (ltb-true _ n p.0); marked = subst (λ x. (row_at index x).old ≡ true) is p.1 }))))

@@ -1,5 +1,5 @@
 -- How the calls read the index: how many blocks it has, what a kept sheet names, and which rows are marked. Assumes nothing.
-use Rattle.std.specs.Prelude.{◌≡◌, ℕ, zero, suc, ◌+◌, ◌<◌, ◌≤◌, Bool, true, false, cond, ◌&&◌, ◌||◌, List, [], ◌∷◌, length, take, drop, is_ok, ◌≢◌, nat_lt}
+use Rattle.std.specs.Prelude.{◌≡◌, ℕ, zero, suc, ◌+◌, ◌<◌, ◌≤◌, Bool, true, false, cond, ◌&&◌, ◌||◌, List, [], ◌∷◌, length, take, drop, is_ok, ◌≢◌, nat_lt, slice_index_or}
 use Rattle.sheets.specs.Refusals.{framing_of, check_of}
 use Rattle.sheets.specs.Sheets.{sheet_of}
 use Rattle.library.specs.Tables.{row_at}
@@ -30,6 +30,12 @@ kept_names wide shelf row =
 abbrev pub leans : List Row → ℕ → List ℕ → Bool
 leans index n [] = false
 leans index n (k ∷ ks) = (nat_lt k n && (row_at index k).old) || leans index n ks
+
+-- name i is that of a block below n, and that block is marked
+pub record NamesMarked (index : List Row) (n : ℕ) (names : List ℕ) (i : ℕ) : Type 0 where
+  pub name : i < length names
+  pub below : slice_index_or names i 255 < n
+  pub marked : (row_at index (slice_index_or names i 255)).old ≡ true
 
 -- the row with that mark
 abbrev pub with_mark : Row → Bool → Row

@@ -1,8 +1,8 @@
 // Readers of a library's tables that answer on any memory: how many blocks there are, a row, a kept sheet and what it names.
-ghost use Rattle.std.specs.Prelude.{◌≡◌, false, ◌&&◌, is_ok, MatchOption};
+ghost use Rattle.std.specs.Prelude.{◌≡◌, false, ◌&&◌, is_ok, Decides, MatchOption};
 ghost use Rattle.sheets.specs.Refusals.{framing_of, check_of};
 ghost use Rattle.sheets.specs.Sheets.{sheet_of};
-ghost use Rattle.library.specs.Marks.{Counted, kept_bytes, kept_names, leans};
+ghost use Rattle.library.specs.Marks.{Counted, kept_bytes, kept_names, leans, NamesMarked};
 ghost use Rattle.library.specs.Tables.{row_at};
 
 use crate::row::Row;
@@ -40,11 +40,11 @@ impl<'a, M: Measure> Kept<'a, M> {
     pub(crate) fn count(&self) -> usize
         ensures { Counted self.now.index.now result }
     {
-        let mut n: usize = 0;
-        while n < 64 && n < self.index.len() && self.index[n].used {
-            n += 1;
-        }
-        n
+        self.index
+            .iter()
+            .take(64)
+            .take_while(|row| row.used)
+            .count()
     }
 
     // Row n; past the index one that no block has.
@@ -61,19 +61,25 @@ impl<'a, M: Measure> Kept<'a, M> {
         Checked::read(part(self.shelf, row.start, row.len), width::<M>()).ok()
     }
 
+    // Whether instance i of a sheet names a block below n whose row is marked.
+    fn is_marked(&self, n: usize, sheet: &Checked<'_>, i: usize) -> bool
+        ensures { Decides result (NamesMarked self.now.index.now n (sheet_of sheet.now.width.bytes sheet.now.bytes.now).instances i) }
+    {
+        let Some(block) = sheet.instance(i) else {
+            return false;
+        };
+        (block as usize) < n && self.row(block as usize).old
+    }
+
     // Whether a sheet names a block below n whose row is marked.
     pub(crate) fn names_marked(&self, n: usize, sheet: &Checked<'_>) -> bool
         ensures { result ≡ leans self.now.index.now n (sheet_of sheet.now.width.bytes sheet.now.bytes.now).instances }
     {
-        for i in 0..sheet.count(Item::Instance) {
-            if let Some(block) = sheet.instance(i) {
-                let k = block as usize;
-                if k < n && self.row(k).old {
-                    return true;
-                }
-            }
-        }
-        false
+        (0..sheet.count(Item::Instance)).any(
+            |i: usize| -> bool
+                ensures { Decides result (NamesMarked self.entry.now.index.now n (sheet_of sheet.entry.now.width.bytes sheet.entry.now.bytes.now).instances i) }
+            { self.is_marked(n, sheet, i) },
+        )
     }
 
     // Whether the kept sheet of row k names a block below n whose row is marked.
