@@ -30,6 +30,7 @@ pub(crate) fn read_names(sheet: &Checked<'_>, into: &mut [u8]) -> usize
     ensures names { take result into.new ≡ (says sheet.now).instances }
 {
     let n = sheet.count(Item::Instance);
+    // by number: a sheet's instances are read by it, and `into` may be longer
     for k in 0..n {
         into[k] = sheet.instance(k).unwrap();
     }

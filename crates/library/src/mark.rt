@@ -16,6 +16,7 @@ impl<'a, M: Measure> Library<'a, M> {
         ensures marked { Marked M.wide self.old.shelf.now block count self.old.index.now self.new.index.now }
         ensures cards { self.new.cards.now ≡ self.old.cards.now }
     {
+        // by number: each turn reads all rows as the turns before it left them, and writes one
         for n in 0..count {
             if n == block || self.kept().leans_on(n, n) {
                 self.index[n].old = true;

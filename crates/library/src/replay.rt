@@ -34,8 +34,7 @@ impl<'a, M: Measure> Library<'a, M> {
         self.begin::<R>();
         let count = calls.len().min(answers.len());
         let mut at: usize = 0;
-        for i in 0..count {
-            let call = &calls[i];
+        for (i, call) in calls[..count].iter().enumerate() {
             let left = out.len() - at;
             answers[i] = self.apply::<R>(rows, &mut out[at..], call);
             at += call.taken(left);

@@ -1,5 +1,5 @@
 -- What stops a preview first.
-use Rattle.std.proofs.Common.{◌≡◌, refl, sym, ap, ap₂}
+use Rattle.std.proofs.Common.{refl, sym, ap, ap₂}
 use Rattle.library.specs.Steps.{preview}
 use Rattle.library.proofs.Applying.{goes_as, stops_read}
 use Rattle.library.proofs.Passing.{passed_is}

@@ -1,5 +1,5 @@
 -- The clauses from what was found.
-use Rattle.std.proofs.Common.{◌≡◌, length, refl, sym, ap, ◌∙◌, subst, subst₂, inl, inr}
+use Rattle.std.proofs.Common.{length, refl, sym, ap, ◌∙◌, subst, subst₂, inl, inr}
 use Rattle.std.proofs.lemmas.Bool.{false≢true}
 use Rattle.sheets.specs.Refusals.{both_of}
 use Rattle.sheets.specs.declared.width.Width.{Width}

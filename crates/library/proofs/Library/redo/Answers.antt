@@ -1,5 +1,5 @@
 -- The card's rows are the first 128.
-use Rattle.std.proofs.Common.{◌*◌, length, ap, ◌∙◌, arith, rules, set}
+use Rattle.std.proofs.Common.{◌*◌, length, ap, ◌∙◌, arith, set}
 use Rattle.std.proofs.lemmas.List.{length-take-le, get_or_default}
 use Rattle.library.specs.Placing.{renewed_row}
 use Rattle.library.specs.Tables.{no_row, overwritten}

@@ -8,11 +8,11 @@ use Rattle.sheets.specs.Refusals.{framing_of, check_of}
 use Rattle.sheets.specs.Sheets.{Sheet, sheet_of}
 use Rattle.charts.specs.Naming.{says}
 use Rattle.library.specs.Books.{Book, rules}
-use Rattle.library.specs.Checks.{turned, NamedBy, CardOf, Working, cards_beneath, network}
+use Rattle.library.specs.Checks.{turned, CardOf, Working, cards_beneath, network}
 use Rattle.library.specs.Law.{GoesOn}
 use Rattle.library.specs.Marks.{Counted, kept_bytes}
 use Rattle.library.specs.Memory.{Stands}
-use Rattle.library.specs.Placing.{lent_of, faces_kept, Again, Redone, Regular, Renewed}
+use Rattle.library.specs.Placing.{lent_of, Again, Redone, Regular, Renewed}
 use Rattle.library.specs.Refusals.{told}
 use Rattle.library.specs.Steps.{Renewing, rework, done}
 use Rattle.library.specs.Tables.{row_at, blocks_kept}
