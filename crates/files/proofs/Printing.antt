@@ -5,13 +5,12 @@ use Rattle.std.proofs.lemmas.Result.{IfOk-weaker}
 use Rattle.costs.specs.Lists.{Selects}
 use Rattle.costs.specs.declared.entry.Entry.{Entry}
 use Rattle.library.specs.Books.{Rules, Book}
-use Rattle.library.specs.Calls.{asks, replies}
+use Rattle.library.specs.Calls.{asks, replies, Answer}
 use Rattle.library.specs.Checks.{Sizes}
 use Rattle.library.specs.Law.{Sound}
 use Rattle.library.specs.Memory.{Stands}
 use Rattle.library.specs.Steps.{History}
 use Rattle.library.specs.Theorems.{Fixed}
-use Rattle.library.specs.declared.calls.Answer.{Answer}
 use Rattle.library.specs.declared.calls.Call.{Call}
 use Rattle.library.specs.declared.row.Row.{Row}
 use Rattle.sheets.specs.Frames.{fields}

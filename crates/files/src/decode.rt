@@ -5,8 +5,10 @@ ghost use Rattle.sheets.specs.Parts.{raw};
 ghost use Rattle.files.specs.Files.{made_of, shown_call, retime_of, rework_of, card_of, any_call, call_of, calls_of, end_of, rows_asked};
 
 use crate::form::Form;
-use library::calls::{Call, Wide};
-use sheets::part::{Part, first};
+use library::calls::Call;
+use sheets::fields::Fields;
+use sheets::part::Part;
+use sheets::width::Width;
 use std::alloc::{AllocError, Global};
 
 // The tag of a sheet to enter.
@@ -63,7 +65,7 @@ fn read_any<'a>(part: Part<'a>) -> Option<Call<'a>>
     match part.tag {
         10 => Some(Call::Preview {
             sheet: part.content,
-            width: Wide::Four,
+            width: Width { bytes: 4 },
             rows: ROWS,
             out: 128,
         }),
@@ -100,17 +102,16 @@ pub(crate) fn decode<'a>(
     ensures end { IfOk result (λ p. p.1 ≡ end_of form 0 (fields bytes.now)) }
 {
     let mut calls = Vec::new(heap);
-    let mut rest = bytes;
-    let mut at: usize = 0;
-    while let Some((part, after)) = first(rest) {
-        let Some(call) = read_call(form, part) else {
-            return Ok((calls, at));
+    let mut end = 0;
+    for field in Fields::of(bytes) {
+        let Some(call) = read_call(form, field.part) else {
+            return Ok((calls, end));
         };
-        calls.push(call)?;
-        at += 3 + part.content.len();
-        rest = after;
+        // the error is converted before `?`: a `?` that converts what gives a call back is not proved in this loop
+        calls.push(call).map_err(AllocError::from)?;
+        end = field.end;
     }
-    Ok((calls, at))
+    Ok((calls, end))
 }
 
 // How many of the caller's rows the calls take in all.

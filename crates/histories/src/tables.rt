@@ -3,13 +3,9 @@ use costs::entry::Entry;
 use costs::measure::Measure;
 use costs::reducer::Reducer;
 use costs::ticks::Ticks;
-use library::card::card;
-use library::enter::enter;
-use library::new::new;
 use library::refusal::Refusal;
-use library::retime::retime;
-use library::rework::rework;
 use library::row::Row;
+use library::{Kept, Library};
 use listing::told::Told;
 use std::alloc::{AllocError, Global};
 use std::process::Abort;
@@ -23,6 +19,18 @@ pub(crate) struct Tables {
     pub(crate) rows: Vec<Entry<Ticks>>,
 }
 
+impl Tables {
+    // The library in these tables, and the working rows.
+    fn library(&mut self) -> (Library<'_, Ticks>, &mut [Entry<Ticks>]) {
+        let library = Library {
+            shelf: &mut self.shelf,
+            index: &mut self.index,
+            cards: &mut self.cards,
+        };
+        (library, &mut self.rows)
+    }
+}
+
 // Tables with a shelf of so many bytes, and so many index rows and rows of cards, begun.
 pub(crate) fn begun<R: Reducer<Ticks>>(
     heap: Global,
@@ -30,33 +38,19 @@ pub(crate) fn begun<R: Reducer<Ticks>>(
     index: usize,
     cards: usize,
 ) -> Result<Tables, AllocError> {
-    let none = Row {
-        used: false,
-        start: 0,
-        len: 0,
-        inputs: 0,
-        outputs: 0,
-        lens: [0; 8],
-        old: false,
-    };
     let mut tables = Tables {
         shelf: vec![in heap; 0u8; shelf]?,
-        index: vec![in heap; none; index]?,
+        index: vec![in heap; Row::unused(); index]?,
         cards: vec![in heap; Entry::zero(); cards]?,
         rows: vec![in heap; Entry::zero(); 3072]?,
     };
-    new::<Ticks, R>(&mut tables.shelf, &mut tables.index, &mut tables.cards);
+    Library::new::<R>(&mut tables.shelf, &mut tables.index, &mut tables.cards);
     Ok(tables)
 }
 
 pub(crate) fn add<R: Reducer<Ticks>>(tables: &mut Tables, sheet: &[u8]) -> Result<usize, Refusal> {
-    enter::<Ticks, R>(
-        &mut tables.shelf,
-        &mut tables.index,
-        &mut tables.cards,
-        &mut tables.rows,
-        sheet,
-    )
+    let (mut library, rows) = tables.library();
+    library.enter::<R>(rows, sheet)
 }
 
 pub(crate) fn look<R: Reducer<Ticks>>(
@@ -64,7 +58,12 @@ pub(crate) fn look<R: Reducer<Ticks>>(
     block: usize,
     out: &mut [Entry<Ticks>],
 ) -> Result<usize, Refusal> {
-    card::<Ticks, R>(&tables.index, &tables.cards, block, 0, out)
+    let kept = Kept {
+        shelf: &tables.shelf,
+        index: &tables.index,
+        cards: &tables.cards,
+    };
+    kept.card::<R>(block, 0, out)
 }
 
 pub(crate) fn change<R: Reducer<Ticks>>(
@@ -73,23 +72,13 @@ pub(crate) fn change<R: Reducer<Ticks>>(
     algorithm: usize,
     amount: &[u8],
 ) -> Result<(), Refusal> {
-    retime::<Ticks, R>(
-        &mut tables.shelf,
-        &mut tables.index,
-        block,
-        algorithm,
-        amount,
-    )
+    let (mut library, _) = tables.library();
+    library.retime::<R>(block, algorithm, amount)
 }
 
 pub(crate) fn again<R: Reducer<Ticks>>(tables: &mut Tables, block: usize) -> Result<(), Refusal> {
-    rework::<Ticks, R>(
-        &tables.shelf,
-        &mut tables.index,
-        &mut tables.cards,
-        &mut tables.rows,
-        block,
-    )
+    let (mut library, rows) = tables.library();
+    library.rework::<R>(rows, block)
 }
 
 // That a call is refused with this number, level and place.

@@ -3,7 +3,7 @@ use Rattle.std.proofs.Common.{◌≡◌, ℕ, ◌≤◌, min, List, [], ◌∷�
 use Rattle.std.proofs.lemmas.List.{append-nil, drop_all}
 use Rattle.std.proofs.lemmas.Bool.{cases_lt}
 use Rattle.costs.specs.declared.entry.Entry.{Entry}
-use Rattle.library.specs.declared.calls.Answer.{Answer}
+use Rattle.library.specs.Calls.{Answer}
 use Rattle.library.specs.declared.calls.Call.{Call}
 use Rattle.library.specs.declared.row.Row.{Row}
 use Rattle.listing.specs.Answers.{answers_lines}

@@ -1,15 +1,14 @@
 -- The lines about calls, answers and marks. Assumes nothing.
-use Rattle.std.specs.Prelude.{ℕ, ◌+◌, Bool, cond, ◌&&◌, List, [], ◌∷◌, ◌++◌, length, take, drop, is_ok, None, codes, decimal, ◌==◌}
+use Rattle.std.specs.Prelude.{ℕ, ◌+◌, Bool, cond, ◌&&◌, List, [], ◌∷◌, ◌++◌, length, take, drop, is_ok, Ok, Err, None, codes, decimal, ◌==◌}
 use Rattle.costs.specs.declared.entry.Entry.{Entry}
 use Rattle.networks.specs.Rows.{list_at}
 use Rattle.sheets.specs.Refusals.{framing_of, check_of}
 use Rattle.sheets.specs.Sheets.{sheet_of}
-use Rattle.library.specs.Calls.{asked, taken}
+use Rattle.library.specs.Calls.{asked, taken, Answer}
 use Rattle.library.specs.Refusals.{Told, told}
 use Rattle.library.specs.Steps.{Ask, enter, preview, retime, rework, card}
 use Rattle.library.specs.Tables.{row_at}
-use Rattle.library.specs.declared.calls.Answer.{Answer}
-use Rattle.library.specs.declared.calls.Answer.TheVariants.{Entered, Previewed, Done, Shown, Refused}
+use Rattle.library.specs.declared.calls.Accepted.TheVariants.{Entered, Previewed, Done, Shown}
 use Rattle.library.specs.declared.calls.Call.{Call}
 use Rattle.library.specs.declared.row.Row.{Row}
 use Rattle.listing.specs.Cards.{list_lines, card_lines}
@@ -58,11 +57,11 @@ word_line word n = word ++ (words (n ∷ []) ++ codes "\n")
 module _ {M : Type 0} (spelt : M → List ℕ) (wide : ℕ) where
   -- the lines of an answer: the tag, 0 and what is answered, and the entries of its lists, which stand in these rows; or the tag, refusal, level and place
   abbrev pub answer_lines : List Row → Ask → Answer → List (Entry M) → List ℕ
-  answer_lines index ask (Entered n) rows = number_line (tag_of ask) (0 ∷ n ∷ [])
-  answer_lines index ask (Previewed lens) rows = number_line (tag_of ask) (0 ∷ []) ++ card_lines spelt (codes "entry") None (outputs_asked wide index ask) (list_at rows lens) 0 8
-  answer_lines index ask Done rows = number_line (tag_of ask) (0 ∷ [])
-  answer_lines index ask (Shown len) rows = number_line (tag_of ask) (0 ∷ len ∷ []) ++ list_lines spelt (codes "entry") None (event_asked ask) (outputs_asked wide index ask) 0 (take len rows)
-  answer_lines index ask (Refused e) rows = refusal_line (tag_of ask) (told e)
+  answer_lines index ask (Ok (Entered n)) rows = number_line (tag_of ask) (0 ∷ n ∷ [])
+  answer_lines index ask (Ok (Previewed lens)) rows = number_line (tag_of ask) (0 ∷ []) ++ card_lines spelt (codes "entry") None (outputs_asked wide index ask) (list_at rows lens) 0 8
+  answer_lines index ask (Ok Done) rows = number_line (tag_of ask) (0 ∷ [])
+  answer_lines index ask (Ok (Shown len)) rows = number_line (tag_of ask) (0 ∷ len ∷ []) ++ list_lines spelt (codes "entry") None (event_asked ask) (outputs_asked wide index ask) 0 (take len rows)
+  answer_lines index ask (Err e) rows = refusal_line (tag_of ask) (told e)
 
   -- the lines of all answers, each with the rows that its call took
   abbrev pub answers_lines : List Row → List Call → List Answer → List (Entry M) → List ℕ

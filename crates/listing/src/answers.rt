@@ -11,10 +11,10 @@ use crate::lines::push_words;
 use crate::told::Told;
 use costs::entry::Entry;
 use costs::measure::Measure;
-use library::calls::{Answer, Call};
+use library::calls::{Accepted, Answer, Call};
 use library::refusal::Refusal;
 use library::row::Row;
-use sheets::opened::{Opened, framing};
+use sheets::opened::Checked;
 use sheets::width::Width;
 use std::alloc::AllocError;
 
@@ -36,14 +36,7 @@ fn sheet_outputs<M: Measure>(sheet: &[u8]) -> usize
     ensures { result ≡ outputs_of M.Measure.wide sheet.now }
 {
     let width = Width::new(M::width()).unwrap();
-    if framing(sheet).is_err() {
-        return 0;
-    }
-    let opened = Opened::new(sheet);
-    if opened.check(width).is_err() {
-        return 0;
-    }
-    opened.into_checked(width).interface().outputs as usize
+    Checked::read(sheet, width).map_or(0, |sheet| sheet.interface().outputs as usize)
 }
 
 // How many outputs the block has whose lists a call asks for.
@@ -107,17 +100,17 @@ fn push_answer<M: Spelt>(
         outputs: outputs::<M>(index, call),
     };
     match answer {
-        Answer::Entered { block } => push_numbers(text, tag(call), &[0, *block]),
-        Answer::Previewed { lens } => {
+        Ok(Accepted::Entered { block }) => push_numbers(text, tag(call), &[0, *block]),
+        Ok(Accepted::Previewed { lens }) => {
             push_numbers(text, tag(call), &[0])?;
             heading.push_card(text, rows, lens, 8)
         }
-        Answer::Done => push_numbers(text, tag(call), &[0]),
-        Answer::Shown { len } => {
+        Ok(Accepted::Done) => push_numbers(text, tag(call), &[0]),
+        Ok(Accepted::Shown { len }) => {
             push_numbers(text, tag(call), &[0, *len])?;
             heading.push_list(text, event(call), front(rows, *len))
         }
-        Answer::Refused(refusal) => push_refused(text, tag(call), *refusal),
+        Err(refusal) => push_refused(text, tag(call), *refusal),
     }
 }
 

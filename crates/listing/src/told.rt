@@ -17,19 +17,15 @@ pub struct Told {
     pub place: usize,
 }
 
-// Of a sheet's bytes: level 1.
+// Of a sheet's bytes.
 impl From<SheetRefusal> for Told {
     ghost from_gives = { λ e t. Tells t (by_sheet e) };
 
     fn from(refusal: SheetRefusal) -> Told {
-        let (number, place) = match refusal {
-            SheetRefusal::Cut { at } => (1, at),
-            SheetRefusal::Grammar { at } => (2, at),
-        };
         Told {
-            number,
-            level: 1,
-            place,
+            number: refusal.number(),
+            level: refusal.level(),
+            place: refusal.place(),
         }
     }
 }
