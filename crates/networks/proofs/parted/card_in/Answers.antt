@@ -4,6 +4,7 @@ use Rattle.costs.specs.declared.entry.Entry.{Entry}
 use Rattle.networks.proofs.Finish.{network_read, sheet_given}
 use Rattle.networks.proofs.parted.card_in.Goals as goal
 use Rattle.networks.specs.Networks.{says, Given}
+
 pub new-places-requires : goal.new-places-requires
 new-places-requires g c =
     let sheet = c.args.sheet.now in

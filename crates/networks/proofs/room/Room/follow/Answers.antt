@@ -6,6 +6,7 @@ use Rattle.networks.specs.Forming.{Forms}
 use Rattle.networks.specs.Rows.{table_at}
 use Rattle.networks.proofs.room.Room.follow.Goals as goal
 use Rattle.sheets.specs.declared.words.End.{End}
+
 pub returns-in-Outside-clause-came : goal.returns-in-Outside-clause-came
 returns-in-Outside-clause-came g c =
     let T = table_at c.args.lists.now.rows.now c.args.lists.now.lens in
