@@ -8,12 +8,11 @@ use Rattle.costs.specs.declared.entry.Entry.{Entry}
 use Rattle.sheets.specs.Refusals.{framing_of, check_of}
 use Rattle.sheets.specs.Sheets.{sheet_of}
 use Rattle.library.specs.Books.{Rules, Block, Book, size, used, start_of, with_block}
-use Rattle.library.specs.Checks.{Lent, blocks_of, Verdict, turned, fine, Then, Never, Plainly, Bad, Framed, Right}
+use Rattle.library.specs.Checks.{Lent, blocks_of, Verdict, fine, Then, Never, Plainly, Bad, Framed, Right}
 use Rattle.library.specs.Law.{GoesOn}
 use Rattle.library.specs.Marks.{Counted, kept_end}
 use Rattle.library.specs.Memory.{Stands}
-use Rattle.library.specs.Refusals.{Told}
-use Rattle.library.specs.Steps.{EnterLacks, PreviewLacks, Placing, Entering, Previewing, Ask, enter, preview, Reply, entered, previewed, refused, Step, no_entry, enters, no_preview, previews}
+use Rattle.library.specs.Steps.{EnterLacks, PreviewLacks, Placing, Entering, Previewing, Ask, enter, Reply, entered, Step, enters}
 use Rattle.library.specs.Tables.{row_of, lens_of, card_rows, overwritten, blocks_kept, sizes_of}
 use Rattle.library.specs.declared.row.Row.{Row}
 use Rattle.library.proofs.Entering.{entered_stands}
@@ -49,9 +48,6 @@ module _ {M : Type 0} (rules : Rules M) (laws : Lawful rules.ops) (sound : Sound
         (placing_to st bs (EnterLacks (sizes_of shelf index cards) lent (kept_end index (size b)) (size b) (length bs)) u
         (subst (λ n. Placing rules (blocks_kept n index cards) bs (EnterLacks (sizes_of shelf index cards) lent (kept_end index n) n (length bs)) u) (is_size b st) x)))) w h
 
-    pub enter_refused : (bs : List ℕ) (t : Told) → EnterFound bs (turned t) → GoesOn rules (enter bs) lent (refused t) shelf index cards shelf index cards
-    enter_refused bs t h = goes_same (enter bs) (refused t) (λ b st. no_entry bs lent t (enter_book bs (turned t) h b st))
-
     -- what preview found over the tables
     abbrev pub PreviewFound : ℕ → List ℕ → Verdict (ℕ → List (Entry M)) → Type 0
     PreviewFound w bs =
@@ -63,12 +59,6 @@ module _ {M : Type 0} (rules : Rules M) (laws : Lawful rules.ops) (sound : Sound
     pub preview_book : (w : ℕ) (bs : List ℕ) (u : Verdict (ℕ → List (Entry M))) → PreviewFound w bs u → (b : Book M) → Stands rules b shelf index cards → Previewing rules b lent w bs u
     preview_book w bs u h b st =
         then_as (λ t x. x) (λ x. x) (then_as (λ t x. x) (λ x. x) (then_as (λ t x. x) (λ x. x) (λ y x. placing_book bs (PreviewLacks lent) y x b st))) u h
-
-    pub preview_refused : (w : ℕ) (bs : List ℕ) (t : Told) → PreviewFound w bs (turned t) → GoesOn rules (preview w bs) lent (refused t) shelf index cards shelf index cards
-    preview_refused w bs t h = goes_same (preview w bs) (refused t) (λ b st. no_preview w bs lent t (preview_book w bs (turned t) h b st))
-
-    pub preview_done : (w : ℕ) (bs : List ℕ) (card : ℕ → List (Entry M)) → PreviewFound w bs (fine card) → GoesOn rules (preview w bs) lent (previewed card) shelf index cards shelf index cards
-    preview_done w bs card h = goes_same (preview w bs) (previewed card) (λ b st. previews w bs lent card (preview_book w bs (fine card) h b st))
 
     -- an entered sheet, and the tables with its bytes, row and card
     module _ (bs : List ℕ) (card : ℕ → List (Entry M)) (h : EnterFound bs (fine card)) (sized : (e : ℕ) → e < (sheet_of rules.wide bs).face.inputs → Sized (card e))

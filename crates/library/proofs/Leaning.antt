@@ -1,14 +1,12 @@
 -- When one of some blocks is marked. Assumes nothing.
-use Rattle.std.proofs.Common.{◌≡◌, ℕ, zero, suc, ◌<◌, ◌≤◌, Bool, true, false, ◌&&◌, ltb, List, [], ◌∷◌, length, get_or, Option, Some, None, sym, refl, ◌∙◌, subst, zero-add, arith, Decides, MatchBool, MatchOption}
-use Rattle.std.specs.List.{slice_get, AllWithin, HoldsAt, range_with_len}
+use Rattle.std.proofs.Common.{◌≡◌, ℕ, zero, suc, ◌<◌, ◌≤◌, Bool, true, false, ◌&&◌, ltb, List, [], ◌∷◌, length, get_or, sym, refl, ◌∙◌, subst, zero-add, arith, MatchBool}
+use Rattle.std.specs.List.{AllWithin, HoldsAt, range_with_len}
 use Rattle.std.proofs.lemmas.List.{get_or_default}
 use Rattle.std.proofs.lemmas.List.FromFn.{length-range_with_len, get_or-range_with_len}
-use Rattle.std.proofs.lemmas.Option.{slice_get-get_or}
-use Rattle.std.proofs.lemmas.Bool.{false≢true, and_parts, and_from, lt-ltb, ltb-true, false_from_ne_true}
+use Rattle.std.proofs.lemmas.Bool.{and_parts, ltb-true, false_from_ne_true}
 use Rattle.library.specs.Marks.{leans, NamesMarked}
 use Rattle.library.specs.Tables.{row_at}
 use Rattle.library.specs.declared.row.Row.{Row}
-use Rattle.library.proofs.Finding.{nth_found, nth_within}
 use Rattle.library.proofs.Marks.{leans_by}
 use Rattle.library.proofs.Books.{among_at}
 
@@ -25,19 +23,6 @@ module _ (index : List Row) (n : ℕ) where
   leans_none [] m all h = refl
   leans_none (k ∷ ks) zero all h = absurd (omega arith)
   leans_none (k ∷ ks) (suc m) all h = rw (h 0 (omega arith) (omega arith)) (leans_none ks m (omega arith) (λ j l w. h (suc j) (omega (arith, l)) (omega (arith, w))))
-
--- whether name i is of a marked block below n
-pub marked_decided : (index : List Row) (n : ℕ) (ks : List ℕ) (i : ℕ) (o : Option ℕ) (r : Bool) → o ≡ slice_get ks i → MatchOption o (r ≡ false) (λ k. r ≡ marks_below index n k) → Decides r (NamesMarked index n ks i)
-marked_decided index n ks i (Some k) r e h =
-    let is : k ≡ get_or ks i 255 = nth_found ks i 255 k (sym e) in (
-      λ t. let p = and_parts _ _ (sym h ∙ t) in
-          record { name = nth_within ks i 0 k (sym e); below = subst (λ m. m < n) is (ltb-true k n p.0); marked = subst (λ m. (row_at index m).old ≡ true) is p.1 },
-      λ p. h ∙ and_from _ _ (lt-ltb k n (subst (λ m. m < n) (sym is) p.below)) (subst (λ m. (row_at index m).old ≡ true) (sym is) p.marked),
-    )
-marked_decided index n ks i None r e h = (
-  λ t. absurd (false≢true (sym h ∙ t)),
-  λ p. let q = slice_get-get_or ks i 255 p.name in let z : ◌≡◌ {A = ℕ} 0 1 = cc in absurd (omega arith),
-)
 
 -- what `any` over all names found
 pub leans_any : (index : List Row) (n : ℕ) (ks : List ℕ) (m : ℕ) → m ≡ length ks → (r : Bool)

@@ -38,15 +38,6 @@ pub record Marking (wide : ℕ) (shelf : List ℕ) (block n : ℕ) (before now' 
   pub marks : (k : ℕ) → k < n → (k ≡ block → ⊥) → (row_at now' k).old ≡ ((row_at before k).old || leans now' k (kept_names wide shelf (row_at before k)))
 
 module _ (wide : ℕ) (shelf : List ℕ) (block : ℕ) where
-  pub marking_none : (before : List Row) → Marking wide shelf block 0 before before
-  marking_none before = record {
-    same_length = refl;
-    rows = λ k. refl;
-    past = λ k _. refl;
-    itself = λ l. absurd (omega (arith, l));
-    marks = λ k l _. absurd (omega (arith, l));
-  }
-
   pub marking_all : (n : ℕ) (before now' : List Row) → block < n → Marking wide shelf block n before now' → Marked wide shelf block n before now'
   marking_all n before now' lt h = record { same_length = h.same_length; rows = h.rows; past = h.past; itself = h.itself lt; marks = h.marks }
 

@@ -1,19 +1,18 @@
 -- What the checks found over the blocks that the tables hold is so of the book's blocks. Assumes nothing.
-use Rattle.std.proofs.Common.{◌≡◌, ℕ, zero, suc, ◌+◌, ◌<◌, ◌≤◌, true, List, length, sym, refl, ap, ◌∙◌, subst, subst₂, inl, inr, ⊎_elim, arith}
+use Rattle.std.proofs.Common.{◌≡◌, ℕ, zero, suc, ◌+◌, ◌<◌, ◌≤◌, true, List, sym, refl, ap, ◌∙◌, subst, subst₂, inl, inr, ⊎_elim, arith}
 use Rattle.std.proofs.lemmas.Bool.{cases_lt, false≢true}
 use Rattle.costs.specs.Lists.{Among}
 use Rattle.costs.specs.declared.entry.Entry.{Entry}
-use Rattle.networks.specs.Networks.{network_of, Fit}
 use Rattle.sheets.specs.Sheets.{Sheet, sheet_of}
 use Rattle.library.specs.Books.{Rules, Block, Book, size, at, used, start_of, instance_of, Within, itself, deeper, Stale}
-use Rattle.library.specs.Checks.{Blocks, blocks_of, Lent, Verdict, turned, fine, Then, First, Never, FirstAt, Missing, Behind, cards_beneath, network, MisnamedBy, NamedBy, Named, StopsBy, CardOver, CardOf, Working}
+use Rattle.library.specs.Checks.{Blocks, blocks_of, Lent, Verdict, turned, fine, Then, First, Never, FirstAt, Missing, Behind, MisnamedBy, NamedBy, Named, StopsBy, CardOver, CardOf, Working}
 use Rattle.library.specs.Marks.{kept_end}
 use Rattle.library.specs.Memory.{Stands}
 use Rattle.library.specs.Refusals.{Told}
 use Rattle.library.specs.Steps.{Placing, Renewing}
 use Rattle.library.specs.Tables.{row_at, blocks_kept}
 use Rattle.library.specs.declared.row.Row.{Row}
-use Rattle.library.proofs.Books.{among_at, start_all, start_next}
+use Rattle.library.proofs.Books.{start_all, start_next}
 use Rattle.library.proofs.Reading.{at_past, row_is, faces_are, cards_are}
 
 -- the same number is the first of which P and Q hold, where they hold of the same numbers
@@ -79,15 +78,6 @@ module _ {M : Type 0} {rules : Rules M} {b : Book M} {shelf : List ℕ} {index :
     working_to (turned t) h = subst₂ (λ f c. StopsBy rules f c s s.face.kind t) (faces_are st s) (cards_are st s) h
     working_to (fine card) h = card_to card h
 
-    -- the blocks beneath are fit
-    pub fit_kept : Never (Missing v s) → Fit (network v s) (cards_beneath v s)
-    fit_kept known =
-        let low : (i : ℕ) → i < length s.instances → instance_of s i < size b = λ i l. ⊎_elim (λ h. h) (λ high. absurd (known i (record { instance = l; no_block = high }))) (cases_lt (instance_of s i) (size b)) in
-        subst₂ (λ f c. Fit (network_of s f) c) (sym (faces_are st s)) (sym (cards_are st s)) (record {
-          narrow = λ i l. (st.book.blocks (instance_of s i) (low i l)).form.few_inputs;
-          sized = λ i f place. (st.book.blocks (instance_of s i) (low i place.0)).sized f place.1;
-        })
-
   pub placing_to : (bs : List ℕ) (Lacks : ℕ → Type 0) (w : Verdict (ℕ → List (Entry M))) → Placing rules v bs Lacks w → Placing rules (blocks_of b) bs Lacks w
   placing_to bs Lacks =
       let s = sheet_of rules.wide bs in
@@ -100,10 +90,6 @@ module _ {M : Type 0} {rules : Rules M} {b : Book M} {shelf : List ℕ} {index :
   renewing_to s lent =
       then_as (first_at_as (Behind v s) (Behind (blocks_of b) s) (behind_to s) (behind_back s) 4) (never_as (Behind v s) (Behind (blocks_of b) s) (behind_to s) (behind_back s))
       (then_as (λ t h. h) (λ h. h) (working_to s))
-
-  -- a kept sheet names blocks that are there
-  pub kept_known : (n : ℕ) → n < size b → Never (Missing v (at b n).sheet)
-  kept_known n lt i h = omega (arith, h.no_block, (st.book.blocks n lt).earlier _ (among_at (at b n).sheet.instances i 255 h.instance), lt)
 
   -- the sheets end where the last row says
   pub end_is : kept_end index (size b) ≡ used b

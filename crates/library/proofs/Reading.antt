@@ -1,7 +1,7 @@
 -- What is read off tables that stand for a book. Assumes nothing.
 use Rattle.std.proofs.Common.{◌≡◌, ℕ, ◌*◌, ◌<◌, ◌≤◌, true, false, List, [], length, get_or, take, drop, replicate, is_ok, sym, ap, ◌∙◌, subst, ⊎_elim, arith}
 use Rattle.std.proofs.lemmas.List.{get_or_past, get_or-replicate}
-use Rattle.std.proofs.lemmas.Bool.{cases_lt, cases_Bool, both_ways, and_from, cond-true}
+use Rattle.std.proofs.lemmas.Bool.{cases_lt, both_ways, and_from, cond-true}
 use Rattle.costs.specs.Entries.{entry_ops}
 use Rattle.costs.specs.declared.entry.Entry.{Entry}
 use Rattle.networks.specs.Rows.{list_at}
@@ -92,10 +92,6 @@ module _ {M : Type 0} {rules : Rules M} {b : Book M} {shelf : List ℕ} {index :
   pub names_are : (n : ℕ) → n < size b → kept_names rules.wide shelf (row_at index n) ≡ (at b n).sheet.instances
   names_are n lt =
       cond-true _ _ _ (and_from _ _ (framed_kept n lt) (right_kept n lt)) ∙ ap (λ (s : Sheet). s.instances) (says_kept n lt)
-
-  -- current by the mark and by the book
-  pub mark_current : (n : ℕ) → n < size b → (Stale b n → ⊥) → (row_at index n).old ≡ false
-  mark_current n lt cur = ⊎_elim (λ e. absurd (cur (st.index_has.marked n lt e))) (λ e. e) (cases_Bool (row_at index n).old)
 
   pub book_current : (n : ℕ) → n < size b → (row_at index n).old ≡ false → Stale b n → ⊥
   book_current n lt e stale = both_ways (row_at index n).old e (st.index_has.stale n lt stale)

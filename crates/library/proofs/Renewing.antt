@@ -6,12 +6,12 @@ use Rattle.costs.specs.Lists.{Sized, Sound as SoundReducer}
 use Rattle.costs.specs.declared.entry.Entry.{Entry}
 use Rattle.sheets.specs.Sheets.{Sheet, sheet_of}
 use Rattle.library.specs.Books.{Rules, Block, Book, size, at, start_of, worked_block, with_work}
-use Rattle.library.specs.Checks.{Lent, blocks_of, Verdict, turned, fine}
+use Rattle.library.specs.Checks.{Lent, blocks_of, Verdict, fine}
 use Rattle.library.specs.Law.{GoesOn}
 use Rattle.library.specs.Marks.{Counted, kept_bytes}
 use Rattle.library.specs.Memory.{Stands}
-use Rattle.library.specs.Refusals.{Told, by_library}
-use Rattle.library.specs.Steps.{Renewing, Reworking, rework, done, refused, no_block, stays, no_rework, reworks}
+use Rattle.library.specs.Refusals.{by_library}
+use Rattle.library.specs.Steps.{Renewing, Reworking, rework, done, refused, no_block, stays, reworks}
 use Rattle.library.specs.Tables.{row_at, row_of, lens_of, card_rows, overwritten, blocks_kept}
 use Rattle.library.specs.declared.row.Row.{Row}
 use Rattle.library.proofs.Answering.{goes_same}
@@ -46,9 +46,6 @@ module _ {M : Type 0} (rules : Rules M) (laws : Lawful rules.ops) (sound : Sound
     renewing_book w h b st =
         subst (λ s. Renewing rules (blocks_of b) s lent w) (says_kept st n (in_book b st lt))
         (renewing_to st kept_sheet lent w (subst (λ k. Renewing rules (blocks_kept k index cards) kept_sheet lent w) (is_size b st) h))
-
-    pub rework_refused : (t : Told) → Renewing rules (blocks_kept count index cards) kept_sheet lent (turned t) → GoesOn rules (rework n) lent (refused t) shelf index cards shelf index cards
-    rework_refused t h = goes_same rules laws sound shelf index cards lent (rework n) (refused t) (λ b st. no_rework n lent t (in_book b st lt) (mark_stale st n old) (renewing_book (turned t) h b st))
 
     -- a card worked again, and the tables with its row and its rows
     module _ (card : ℕ → List (Entry M)) (h : Renewing rules (blocks_kept count index cards) kept_sheet lent (fine card)) (sized : (e : ℕ) → e < kept_sheet.face.inputs → Sized (card e))

@@ -1,5 +1,5 @@
 -- What a retime does, from what its code found in the tables. Assumes nothing.
-use Rattle.std.proofs.Common.{◌≡◌, ℕ, ◌+◌, ◌<◌, ◌≤◌, List, length, drop, Some, None, Option, sym, refl, ap, ◌∙◌, subst, inl, inr, arith, MatchOption}
+use Rattle.std.proofs.Common.{◌≡◌, ℕ, ◌+◌, ◌<◌, ◌≤◌, List, length, drop, Some, None, Option, refl, ap, ◌∙◌, subst, inl, inr, arith, MatchOption}
 use Rattle.std.proofs.lemmas.List.{length-take, length-drop}
 use Rattle.std.proofs.lemmas.Bool.{and_from}
 use Rattle.costs.specs.declared.entry.Entry.{Entry}
@@ -25,14 +25,6 @@ kept_place : (wide : ℕ) (shelf : List ℕ) (row : Row) (k : ℕ) → 1 ≤ wid
     → MatchOption o (length (sheet_of wide (kept_bytes shelf row)).amounts ≤ k) (AmountAt wide (kept_bytes shelf row) k) → MatchOption o (NoAmount wide shelf row k) (KeptAmount wide shelf row k)
 kept_place wide shelf row k some low None over = absurd (omega arith)
 kept_place wide shelf row k some low (Some p) at_p = record { named = low; stands = at_p; within = kept_within wide shelf row p some at_p.within }
-
--- the place of an amount in the checked sheet is its place in the kept one
-pub kept_amount : (wide : ℕ) (shelf : List ℕ) (row : Row) (k : ℕ) → 1 ≤ wide → (w : ℕ) (bs : List ℕ) → w ≡ wide → bs ≡ kept_bytes shelf row → k < length (sheet_of w bs).amounts → (o : Option ℕ)
-    → MatchOption o (length (sheet_of w bs).amounts ≤ k) (AmountAt w bs k) → MatchOption o (NoAmount wide shelf row k) (KeptAmount wide shelf row k)
-kept_amount wide shelf row k some w bs e f =
-    let Place : ℕ → List ℕ → Type 0 =
-    λ v ds. k < length (sheet_of v ds).amounts → (o : Option ℕ) → MatchOption o (length (sheet_of v ds).amounts ≤ k) (AmountAt v ds k) → MatchOption o (NoAmount wide shelf row k) (KeptAmount wide shelf row k) in
-    subst (λ v. Place v bs) (sym e) (subst (Place wide) (sym f) (kept_place wide shelf row k some))
 
 module _ {M : Type 0} (rules : Rules M) (shelf : List ℕ) (index : List Row) (n k : ℕ) (new : List ℕ) {b : Book M} {cards : List (Entry M)} (st : Stands rules b shelf index cards) where
   pub retime_width : (length new ≡ rules.wide → ⊥) → Retiming rules b n k new (turned (by_library 2 (length new)))

@@ -1,5 +1,5 @@
 -- The clauses of rework from what its code found. Assumes nothing.
-use Rattle.std.proofs.Common.{◌≡◌, ℕ, ◌+◌, ◌*◌, ◌<◌, ◌≤◌, true, false, ◌&&◌, List, length, take, drop, set, is_ok, Ok, Err, Result, sym, refl, ap, ◌∙◌, subst, subst₂, inl, inr, arith, MatchResult}
+use Rattle.std.proofs.Common.{◌≡◌, ℕ, ◌+◌, ◌*◌, ◌<◌, ◌≤◌, true, false, ◌&&◌, List, length, take, drop, set, is_ok, Ok, Err, Result, sym, refl, ap, ◌∙◌, subst, subst₂, inr, arith, MatchResult}
 use Rattle.std.proofs.lemmas.List.{get_or-set_same}
 use Rattle.std.proofs.lemmas.Bool.{false≢true, and_from}
 use Rattle.costs.specs.Amounts.{Lawful}
@@ -12,7 +12,7 @@ use Rattle.sheets.specs.Refusals.{framing_of, check_of}
 use Rattle.sheets.specs.Sheets.{Sheet, sheet_of}
 use Rattle.sheets.proofs.Forms.{form_of}
 use Rattle.library.specs.Books.{Rules, Book, size, at, with_work, Stale}
-use Rattle.library.specs.Checks.{Lent, MisnamedBy, NamedBy, Blocks, blocks_of, Verdict, turned, fine, First, Never, Behind, Named, cards_beneath, network, CardOf, Working}
+use Rattle.library.specs.Checks.{Lent, MisnamedBy, NamedBy, Blocks, blocks_of, Verdict, turned, fine, Never, Behind, Named, cards_beneath, network, CardOf, Working}
 use Rattle.library.specs.Law.{GoesOn}
 use Rattle.library.specs.Marks.{Counted, kept_bytes}
 use Rattle.library.specs.Memory.{Stands}
@@ -25,7 +25,6 @@ use Rattle.library.specs.declared.refusal.Refusal.{Refusal}
 use Rattle.library.specs.declared.row.Row.{Row}
 use Rattle.library.proofs.Answering.{goes_same}
 use Rattle.library.proofs.Entered.{fit_any}
-use Rattle.library.proofs.Finding.{first_as}
 use Rattle.library.proofs.Forming.{off_card, names_pass}
 use Rattle.library.proofs.Parts.{part_written}
 use Rattle.library.proofs.Placing.{mark_stale, named_back, renewing_to}
@@ -51,20 +50,9 @@ redone_from rules v s n index cards index' cards' rows lens row in' worked is ei
 
 -- checks 4 and 7 over the tables
 module _ {M : Type 0} (rules : Rules M) (s : Sheet) (index : List Row) (cards : List (Entry M)) (lent : Lent) (count : ℕ) where
-  pub renew_behind : (k : ℕ) → First (Old index s) k → Renewing rules (blocks_kept count index cards) s lent (turned (by_library 4 k))
-  renew_behind k h =
-      inl (record {
-        place = k;
-        first = first_as {P = Old index s} {Q = Behind (blocks_kept count index cards) s} (λ i p. record { instance = p.instance; stale = p.old }) (λ i p. record { instance = p.instance; old = p.stale }) k h;
-        is = refl;
-      })
-
   module _ (current : Never (Old index s)) where
     none_behind : Never (Behind (blocks_kept count index cards) s)
     none_behind i p = current i (record { instance = p.instance; old = p.stale })
-
-    pub renew_rows : lent.rows < 3072 → Renewing rules (blocks_kept count index cards) s lent (turned (by_library 7 4))
-    renew_rows h = inr (none_behind, inl (record { holds = h; is = refl }))
 
     module _ (rows : 3072 ≤ lent.rows) (n : ℕ) (index' : List Row) (cards' : List (Entry M)) where
       pub renew_done : (r : Result Unit Refusal)

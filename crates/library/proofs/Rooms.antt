@@ -1,16 +1,8 @@
 -- Which table is the first that is too short. Assumes nothing.
-use Rattle.std.proofs.Common.{◌≡◌, ℕ, zero, suc, ◌+◌, ◌-◌, ◌*◌, ◌<◌, ◌≤◌, List, ⊎_elim, arith}
+use Rattle.std.proofs.Common.{ℕ, ◌+◌, ◌*◌, ◌<◌, ◌≤◌, ⊎_elim, arith}
 use Rattle.std.proofs.lemmas.Bool.{cases_lt}
 use Rattle.library.specs.Checks.{Sizes, Lent, First, Never}
-use Rattle.library.specs.Marks.{kept_end}
 use Rattle.library.specs.Steps.{EnterLacks, PreviewLacks}
-use Rattle.library.specs.Tables.{row_at}
-use Rattle.library.specs.declared.row.Row.{Row}
-
--- the sheets of some rows end where that of the last one does
-pub end_past : (index : List Row) (n : ℕ) → 1 ≤ n → kept_end index n ≡ (row_at index (n - 1)).start + (row_at index (n - 1)).len
-end_past index zero some = absurd (omega arith)
-end_past index (suc n) some = let e : suc n - 1 ≡ n = omega arith in rw e
 
 module _ (sizes : Sizes) (lent : Lent) (bytes count more : ℕ) where
   -- no table before the m-th is too short
@@ -39,13 +31,6 @@ module _ (sizes : Sizes) (lent : Lent) (bytes count more : ℕ) where
       module _ (cards : 128 * count + 128 ≤ sizes.cards) where
         pub lacks_rows : lent.rows < 3072 → First (EnterLacks sizes lent bytes count more) 4
         lacks_rows h = record { holds = EnterLacks.rows h; before = before 4 (λ _. shelf) (λ _. (index, few)) (λ _. cards) (λ z. absurd (omega arith)) }
-
-        pub lacks_none : 3072 ≤ lent.rows → Never (EnterLacks sizes lent bytes count more)
-        lacks_none h j (EnterLacks.shelf k) = omega arith
-        lacks_none h j (EnterLacks.index k) = omega arith
-        lacks_none h j (EnterLacks.blocks k) = omega arith
-        lacks_none h j (EnterLacks.cards k) = omega arith
-        lacks_none h j (EnterLacks.rows k) = omega arith
 
   -- where none is, there is room in each
   module _ (none : Never (EnterLacks sizes lent bytes count more)) where

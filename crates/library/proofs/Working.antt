@@ -49,9 +49,6 @@ module _ {M : Type 0} (rules : Rules M) (faces : ℕ → Face) (cards : ℕ → 
   stops_chart Service other e h = record { refusal = e; is = h; as_told = refl }
   stops_chart Composite other e h = absurd (other refl)
 
-  pub chart_stops : (s.face.kind ≡ Composite → ⊥) → (e : ChartRefusal) → RefusedBy rules.ops rules.meant rules.gives s s.face.kind e → StopsBy rules faces cards s s.face.kind (by_chart e)
-  chart_stops other = stops_chart s.face.kind other
-
   -- the card of a composite
   pub network_card : s.face.kind ≡ Composite → (rows : List (Entry M)) (lens : List ℕ) → Carded rules.ops rules.gives (network_of s faces) cards (list_at rows lens)
       → ((e : ℕ) → s.face.inputs ≤ e → get_or lens e 0 ≡ 0) → CardOver rules faces cards s (list_at rows lens)

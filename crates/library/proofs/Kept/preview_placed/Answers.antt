@@ -1,6 +1,5 @@
 -- Check 7, and the card that was worked.
 use Rattle.std.proofs.Common.{length, refl, ap, ◌∙◌, inl, inr, arith}
-use Rattle.std.proofs.lemmas.List.{length-take-le}
 use Rattle.std.proofs.lemmas.Bool.{true≢false}
 use Rattle.sheets.proofs.Forms.{form_of}
 use Rattle.charts.specs.Naming.{says}
@@ -22,8 +21,6 @@ returns-then-out-lt128 g c =
     let lent = lent_of (length c.args.rows.now) (length c.args.out.now) in
     record { same = λ _. refl; found = λ _. inl (record { place = 5; first = previews_out lent (omega arith) (omega arith); is = refl }) }
 
-pub overwrite-requires : goal.overwrite-requires
-overwrite-requires g c = omega (arith, ap length c.split_at.ensures.front, length-take-le 128 c.work.new.card (omega arith))
 
 pub returns-in_err-lens : goal.returns-in_err-lens
 returns-in_err-lens g c =

@@ -1,6 +1,6 @@
 -- The first table that is too short, in their order.
 use Rattle.std.proofs.Common.{arith}
-use Rattle.library.proofs.Rooms.{lacks_shelf, lacks_index, lacks_blocks, lacks_cards, lacks_rows, lacks_none}
+use Rattle.library.proofs.Rooms.{lacks_shelf, lacks_index, lacks_blocks, lacks_cards, lacks_rows}
 use Rattle.library.proofs.Kept.room.Goals as goal
 
 pub returns-in_default : goal.returns-in_default
@@ -23,6 +23,3 @@ returns-then-self-n g c = lacks_cards _ _ _ _ _ (omega (arith, c.in-Some.ensures
 
 pub returns-then-rows-lt3072 : goal.returns-then-rows-lt3072
 returns-then-rows-lt3072 g c = lacks_rows _ _ _ _ _ (omega (arith, c.in-Some.ensures)) (omega arith) (omega arith) (omega arith) (omega arith)
-
-pub returns : goal.returns
-returns g c = (c.in-Some.ensures, lacks_none _ _ _ _ _ (omega (arith, c.in-Some.ensures)) (omega arith) (omega arith) (omega arith) (omega arith))

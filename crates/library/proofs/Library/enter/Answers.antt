@@ -12,8 +12,6 @@ use Rattle.library.proofs.Entered.{bad_answer, bad_book, enter_answer, enter_she
 use Rattle.library.proofs.Passing.{passed_is, same_tables}
 use Rattle.library.proofs.Library.enter.Goals as goal
 
-pub enter_checked-requires : goal.enter_checked-requires
-enter_checked-requires g c = record { bytes = c.in_ok-checked.ensures.bytes; width = ap (λ (w : Width). w.bytes) c.in_ok-checked.ensures.width ∙ c.width.ensures }
 
 pub returns-in_err-checked : goal.returns-in_err-checked
 returns-in_err-checked g c =

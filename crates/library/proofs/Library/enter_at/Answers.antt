@@ -1,5 +1,5 @@
 -- The card that was worked, and where it was kept.
-use Rattle.std.proofs.Common.{◌≡◌, ℕ, List, refl, sym, ap, ◌∙◌, subst, arith}
+use Rattle.std.proofs.Common.{◌≡◌, ℕ, List, ap, ◌∙◌}
 use Rattle.std.proofs.lemmas.Bool.{true≢false}
 use Rattle.costs.specs.declared.entry.Entry.{Entry}
 use Rattle.networks.specs.Networks.{network_of, Fit}
@@ -7,31 +7,14 @@ use Rattle.networks.specs.Rows.{list_at}
 use Rattle.sheets.specs.Sheets.{sheet_of}
 use Rattle.charts.specs.Naming.{says}
 use Rattle.library.specs.Books.{rules}
-use Rattle.library.specs.Checks.{NamedBy, StopsBy, CardOver}
+use Rattle.library.specs.Checks.{CardOver}
 use Rattle.library.specs.Placing.{faces_kept, cards_kept}
-use Rattle.library.specs.Refusals.{told}
 use Rattle.library.specs.declared.row.Row.{Row}
 use Rattle.library.proofs.Entered.{kept_from}
-use Rattle.library.proofs.Passing.{passed_is, over, same_tables}
+use Rattle.library.proofs.Passing.{over}
 use Rattle.library.proofs.Library.enter_at.Goals as goal
 
-pub work-requires : goal.work-requires
-work-requires g c = record {
-  width = c.requires.width;
-  named = let s = says c.args.sheet.now in subst (λ i. NamedBy (faces_kept i s.instances) s s.face.kind) (sym c.kept.ensures.index) c.requires.named;
-  rows = omega arith;
-  card = omega arith;
-}
 
-pub returns-in_err-lens : goal.returns-in_err-lens
-returns-in_err-lens g c =
-    let R = rules g.M.Measure.ops g.M.Measure.wide g.M.Measure.meant g.R.Reducer.gives in
-    let s = says c.args.sheet.now in
-    let e = c.in_err-lens.field-0.0 in
-    let k = c.kept.ensures in
-    let Stops : List ℕ → List Row → List (Entry g.row.M.Denot) → Type 0 =
-    λ _ i d. Fit (network_of s (faces_kept i s.instances)) (cards_kept i d s.instances) → StopsBy R (faces_kept i s.instances) (cards_kept i d s.instances) s s.face.kind (told e) in
-    rw (passed_is c.from_residual.result _ c.from_residual.ensures) (record { tables = same_tables _; same = λ _. (refl, refl, refl); kept = over Stops k.shelf k.index k.cards c.in_err-lens.ensures.answer })
 
 pub returns : goal.returns
 returns g c =

@@ -1,18 +1,15 @@
 -- One row more is marked as it should be.
-use Rattle.std.proofs.Common.{◌≡◌, ℕ, ◌+◌, Bool, true, ◌⊎◌, List, set, refl, sym, ap, ◌∙◌, subst, ap₂, inl, inr, arith}
+use Rattle.std.proofs.Common.{◌≡◌, ℕ, ◌+◌, Bool, true, ◌⊎◌, List, set, sym, ap, ◌∙◌, subst, ap₂, inl, inr, arith}
 use Rattle.std.proofs.lemmas.List.{get_or_default, length-set}
 use Rattle.library.specs.Lent.{SameTables}
 use Rattle.library.specs.Marks.{leans, kept_names, with_mark}
 use Rattle.library.specs.Tables.{no_row, row_at}
 use Rattle.library.specs.declared.Library.{Library}
 use Rattle.library.specs.declared.row.Row.{Row}
-use Rattle.library.proofs.Marks.{Marking, marking_none, marking_all, marking_skip, marking_set}
-use Rattle.library.proofs.Passing.{same_tables}
+use Rattle.library.proofs.Marks.{Marking, marking_all, marking_skip, marking_set}
 use Rattle.library.proofs.Library.mark.Goals as goal
 use Rattle.library.proofs.Library.mark.Goals.{then-n-block, then-n-block-via-then-n-block, then-n-block-via-else-n-block+then-leans_on, else-n-block+else-leans_on}
 
-pub loop-n-init : goal.loop-n-init
-loop-n-init g c = (same_tables _, refl, refl, marking_none _ _ _ _)
 
 pub loop-n-preserved : goal.loop-n-preserved
 loop-n-preserved g c =

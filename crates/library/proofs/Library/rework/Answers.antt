@@ -1,5 +1,5 @@
 -- The clauses from what was found.
-use Rattle.std.proofs.Common.{◌≡◌, ◌+◌, ◌*◌, ◌<◌, ◌≤◌, Bool, true, false, not, ◌&&◌, List, is_ok, length, Ok, Err, Result, sym, refl, ap, ◌∙◌, subst, ap₂, arith, MatchResult}
+use Rattle.std.proofs.Common.{◌≡◌, ◌<◌, Bool, true, false, not, ◌&&◌, List, is_ok, length, Ok, Err, Result, sym, refl, ap, ◌∙◌, subst, ap₂, arith, MatchResult}
 use Rattle.std.proofs.lemmas.Bool.{false≢true, true≢false}
 use Rattle.costs.specs.declared.entry.Entry.{Entry}
 use Rattle.networks.specs.Networks.{Fit}
@@ -31,20 +31,7 @@ not-false : (x : Bool) → not x ≡ false → x ≡ true
 not-false true e = refl
 not-false false e = absurd (true≢false e)
 
-pub check_again-requires : goal.check_again-requires
-check_again-requires g c = omega (arith, c.count.ensures.few)
 
-pub work-requires : goal.work-requires
-work-requires g c = record { width = c.in-Some.ensures.1; named = c.in_ok-check_again.ensures.named; rows = omega (arith, c.split_at_mut-space.ensures.front_len); card = omega (arith, c.split_at_mut-space.ensures.back_len, c.in_ok-check_again.ensures.room.0) }
-
-pub redo-requires : goal.redo-requires
-redo-requires g c =
-    let kept = c.kept-kept.ensures in
-    let block = c.args.block in
-    let room = c.in_ok-check_again.ensures.room in
-    let within : c.count.result ≤ length c.args.self.now.index.now = subst (λ i. c.count.result ≤ length i) kept.index c.count.ensures.within in
-    let has : 128 * block + 128 ≤ length c.args.self.now.cards.now = subst (λ d. 128 * block + 128 ≤ length d) kept.cards room.1 in
-    record { room = (omega arith, has); card = omega (arith, c.work.auto.card, c.split_at_mut-space.ensures.back_len, room.0) }
 
 pub returns-then-block-count : goal.returns-then-block-count
 returns-then-block-count g c =

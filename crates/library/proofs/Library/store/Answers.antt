@@ -1,11 +1,8 @@
 -- The card's rows are the first 128.
-use Rattle.std.proofs.Common.{◌*◌, length, refl, ap, ◌∙◌, arith, rules}
-use Rattle.std.proofs.lemmas.List.{length-take-le}
+use Rattle.std.proofs.Common.{◌*◌, refl, ap, ◌∙◌, rules}
 use Rattle.library.specs.Tables.{overwritten}
 use Rattle.library.proofs.Library.store.Goals as goal
 
-pub overwrite-requires-2 : goal.overwrite-requires-2
-overwrite-requires-2 g c = omega (arith, ap length c.split_at.ensures.front, length-take-le 128 c.args.card.now (omega arith))
 
 pub returns : goal.returns
 returns g c =
