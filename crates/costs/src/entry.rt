@@ -6,7 +6,7 @@ ghost use Rattle.costs.specs.Reducers.{beats};
 use crate::counts::Counts;
 use crate::measure::Measure;
 
-#[derive(Clone, Copy)]
+#[derive(Clone, Copy, PartialEq, Eq, Debug)]
 pub struct Entry<M> {
     pub amount: M,
     pub counts: Counts,

@@ -6,7 +6,7 @@ ghost use Rattle.costs.specs.MeasureLaws.{memory_lawful, two_bytes};
 use crate::measure::Measure;
 use std::fmt;
 
-#[derive(Clone, Copy)]
+#[derive(Clone, Copy, PartialEq, Eq, PartialOrd, Ord, Debug)]
 pub struct Memory {
     pub value: u16,
 }
