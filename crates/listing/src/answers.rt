@@ -29,6 +29,7 @@ pub const REWORK: u8 = 12;
 
 pub const CARD: u8 = 13;
 
+// The tag of a call.
 fn tag(call: &Call<'_>) -> u8
     ensures { result ≡ tag_of (asked call.now) }
 {
