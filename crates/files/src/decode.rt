@@ -2,20 +2,18 @@
 ghost use Rattle.std.specs.Prelude.{◌≡◌, ◌-◌, ◌^◌, min, map, IfOk};
 ghost use Rattle.sheets.specs.Frames.{fields};
 ghost use Rattle.sheets.specs.Parts.{raw};
-ghost use Rattle.files.specs.Files.{made_of, shown_call, retime_of, rework_of, card_of, any_call, call_of, calls_of, end_of, rows_asked};
+ghost use Rattle.files.specs.Files.{made_of, shown_call, retime_of, rework_of, card_of, call_of, calls_of, end_of, rows_asked};
 
 use crate::form::Form;
 use library::calls::Call;
+use listing::answers::{CARD, ENTER, PREVIEW, RETIME, REWORK};
 use sheets::fields::Fields;
 use sheets::part::Part;
 use sheets::width::Width;
 use std::alloc::{AllocError, Global};
 
-// The tag of a sheet to enter.
-const SHEET: u8 = 9;
-
 // How many rows a call is lent to work in.
-const ROWS: usize = 3072;
+pub(crate) const ROWS: usize = 3072;
 
 // Block, algorithm and the amount's bytes.
 fn read_retime<'a>(content: &'a [u8]) -> Option<Call<'a>>
@@ -58,37 +56,26 @@ fn read_card<'a>(content: &'a [u8]) -> Option<Call<'a>>
     })
 }
 
-// The call of a field of a journal; none if its tag is another, or does not have such a length.
-fn read_any<'a>(part: Part<'a>) -> Option<Call<'a>>
-    ensures { shown_call result ≡ any_call (raw part.entry) }
+// The call of a field in a file of this form; none if it holds no such tag, or the content does not have the tag's length.
+fn read_call<'a>(form: Form, part: Part<'a>) -> Option<Call<'a>>
+    ensures { shown_call result ≡ call_of form (raw part.entry) }
 {
-    match part.tag {
-        10 => Some(Call::Preview {
+    match (form, part.tag) {
+        (_, ENTER) => Some(Call::Enter {
+            sheet: part.content,
+            rows: ROWS,
+        }),
+        (Form::Report, _) => None,
+        (Form::Journal, PREVIEW) => Some(Call::Preview {
             sheet: part.content,
             width: Width { bytes: 4 },
             rows: ROWS,
             out: 128,
         }),
-        11 => read_retime(part.content),
-        12 => read_rework(part.content),
-        13 => read_card(part.content),
-        _ => None,
-    }
-}
-
-// The call of a field in a file of this form.
-fn read_call<'a>(form: Form, part: Part<'a>) -> Option<Call<'a>>
-    ensures { shown_call result ≡ call_of form (raw part.entry) }
-{
-    if part.tag == SHEET {
-        return Some(Call::Enter {
-            sheet: part.content,
-            rows: ROWS,
-        });
-    }
-    match form {
-        Form::Report => None,
-        Form::Journal => read_any(part),
+        (Form::Journal, RETIME) => read_retime(part.content),
+        (Form::Journal, REWORK) => read_rework(part.content),
+        (Form::Journal, CARD) => read_card(part.content),
+        (Form::Journal, _) => None,
     }
 }
 

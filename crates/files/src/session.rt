@@ -4,7 +4,7 @@ ghost use Rattle.library.specs.Books.{rules};
 ghost use Rattle.library.specs.Tables.{sizes_of};
 ghost use Rattle.files.specs.Printing.{marks_in, file_lines, Carried, Printed};
 
-use crate::decode::{decode, rows_taken};
+use crate::decode::{ROWS, decode, rows_taken};
 use crate::form::Form;
 use costs::entry::Entry;
 use costs::measure::Measure;
@@ -96,7 +96,7 @@ pub fn session<M: Spelt + Clone, R: Reducer<M>>(
         index: &mut index,
         cards: &mut cards,
     };
-    let mut rows = vec![in heap; zero; 3072]?;
+    let mut rows = vec![in heap; zero; ROWS]?;
     let mut out = vec![in heap; zero; rows_taken(&calls)]?;
     let mut answers = vec![in heap; Ok(Accepted::Done); calls.len()]?;
     file.carry::<M, R>(heap, &mut library, &mut rows, &mut out, &mut answers)

@@ -9,7 +9,6 @@ use library::{Kept, Library};
 use listing::told::Told;
 use std::alloc::{AllocError, Global};
 use std::process::Abort;
-use std::test::Fail;
 
 #[derive(Drop)]
 pub(crate) struct Tables {
@@ -88,22 +87,14 @@ pub(crate) fn refused<T: Copy>(
     number: usize,
     level: usize,
     place: usize,
-) -> Result<(), Fail> {
-    match answer {
-        Ok(_) => {
-            assert!(rt; false);
-            Ok(())
-        },
-        Err(e) => {
-            let wanted = Told {
-                number,
-                level,
-                place,
-            };
-            assert_eq!(rt; Told::from(e), wanted);
-            Ok(())
-        }
-    }
+) {
+    let told = answer.err().map(|e| Told::from(e));
+    let wanted = Told {
+        number,
+        level,
+        place,
+    };
+    assert_eq!(rt; told, Some(wanted));
 }
 
 // That the list of a block's one event has so many entries, and the first one this amount and count at its first output.
@@ -116,10 +107,7 @@ pub(crate) fn shows<R: Reducer<Ticks>>(
     count: u8,
 ) {
     let mut out = [Entry::zero(); 16];
-    match look::<R>(tables, block, &mut out) {
-        Ok(n) => assert_eq!(rt; n, len),
-        Err(_) => assert!(rt; false),
-    }
+    assert_eq!(rt; look::<R>(tables, block, &mut out), Ok(len));
     assert_eq!(rt; out[0].amount.value, amount);
     assert_eq!(rt; out[0].counts.count(0), count);
 }
@@ -131,7 +119,7 @@ pub(crate) fn hides<R: Reducer<Ticks>>(
     block: usize,
     number: usize,
     place: usize,
-) -> Result<(), Fail> {
+) {
     let mut out = [Entry::zero(); 16];
-    refused(rt, look::<R>(tables, block, &mut out), number, 4, place)
+    refused(rt, look::<R>(tables, block, &mut out), number, 4, place);
 }

@@ -18,16 +18,27 @@ use sheets::opened::Checked;
 use sheets::width::Width;
 use std::alloc::AllocError;
 
-// The tag of a call in a file.
-fn tag(call: &Call<'_>) -> usize
+// The tags of the calls in a file, which its format fixes; a line about a call begins with its tag.
+pub const ENTER: u8 = 9;
+
+pub const PREVIEW: u8 = 10;
+
+pub const RETIME: u8 = 11;
+
+pub const REWORK: u8 = 12;
+
+pub const CARD: u8 = 13;
+
+// The tag of a call.
+fn tag(call: &Call<'_>) -> u8
     ensures { result ≡ tag_of (asked call.now) }
 {
     match call {
-        Call::Enter { .. } => 9,
-        Call::Preview { .. } => 10,
-        Call::Retime { .. } => 11,
-        Call::Rework { .. } => 12,
-        Call::Card { .. } => 13,
+        Call::Enter { .. } => ENTER,
+        Call::Preview { .. } => PREVIEW,
+        Call::Retime { .. } => RETIME,
+        Call::Rework { .. } => REWORK,
+        Call::Card { .. } => CARD,
     }
 }
 
@@ -61,7 +72,7 @@ fn event(call: &Call<'_>) -> usize
 }
 
 // A line of numbers, the tag first.
-fn push_numbers(text: &mut String, tag: usize, numbers: &[usize]) -> Result<(), AllocError>
+fn push_numbers(text: &mut String, tag: u8, numbers: &[usize]) -> Result<(), AllocError>
     ensures { OnOk result (string_bytes text.new ≡ string_bytes text.old ++ number_line tag numbers.now) }
 {
     write!(text, "{tag}")?;
@@ -77,7 +88,7 @@ fn push_word(text: &mut String, word: &str, n: usize) -> Result<(), AllocError>
 }
 
 // The line of a refusal: tag, refusal, level and place.
-fn push_refused(text: &mut String, tag: usize, refusal: Refusal) -> Result<(), AllocError>
+fn push_refused(text: &mut String, tag: u8, refusal: Refusal) -> Result<(), AllocError>
     ensures { OnOk result (string_bytes text.new ≡ string_bytes text.old ++ refusal_line tag (as_told refusal)) }
 {
     let told = Told::from(refusal);

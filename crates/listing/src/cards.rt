@@ -81,6 +81,7 @@ impl Heading<'_> {
     ) -> Result<(), AllocError>
         ensures { OnOk result (string_bytes text.new ≡ string_bytes text.old ++ card_lines M.Spelt.text self.now.word.now self.now.block self.now.outputs (list_at rows.now lens.now) 0 inputs) }
     {
+        // by number: a list stands where its event's number says, whatever the lengths of the others
         for e in 0..inputs {
             self.push_list(text, e as usize, list_of(rows, lens, e))?;
         }

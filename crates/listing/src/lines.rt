@@ -29,6 +29,7 @@ pub fn push_entry<M: Spelt>(
     text.push_str(word)?;
     push_words(text, numbers)?;
     write!(text, " {}", entry.amount)?;
+    // counts are bytes, where `push_words` takes numbers of 64 bits: one function of both would say less plainly what it writes
     for n in &entry.counts.at[..outputs.min(8)] {
         write!(text, " {n}")?;
     }

@@ -1,6 +1,7 @@
 // A chart whose event leads to one state alone and to one that a free transition leaves, and lists of 16 and of 17 entries of which none covers another, in ticks with keep.
 ghost use Rattle.std.specs.Prelude.{◌≤◌, length};
 
+use crate::entries::entry;
 use charts::card::card;
 use charts::names::names;
 use charts::refusal::Refusal;
@@ -8,62 +9,35 @@ use costs::entry::Entry;
 use costs::keep::Keep;
 use costs::measure::Measure;
 use costs::ticks::Ticks;
-use sheets::opened::{Opened, framing};
+use sheets::opened::Checked;
 use sheets::width::Width;
 use sheets::words::Kind;
 use std::alloc::{AllocError, Global};
 use std::test::Fail;
 
-// The place of a sheet that is not the tests' own.
-const OTHER: usize = 9999;
-
-fn place(refusal: Refusal) -> usize {
-    match refusal {
-        Refusal::Unnamed { at } => at,
-        Refusal::Circle { state } => state,
-        Refusal::TooLong { place } => place,
-    }
-}
-
-// The eight lengths of the card, or the place of a refusal.
-fn work(
+// The answer of the working, or what its numbers are refused for; none where the sheet is refused before, or is another kind's.
+fn worked(
     bytes: &[u8],
     rows: &mut [Entry<Ticks>],
     out: &mut [Entry<Ticks>],
-) -> Result<[usize; 8], usize>
+) -> Option<Result<[usize; 8], Refusal>>
     requires { (3072 ≤ length rows.old) × (128 ≤ length out.old) }
 {
-    let Some(width) = Width::new(4) else {
-        return Err(OTHER);
-    };
-    if framing(bytes).is_err() {
-        return Err(OTHER);
-    }
-    let opened = Opened::new(bytes);
-    if opened.check(width).is_err() {
-        return Err(OTHER);
-    }
-    let sheet = opened.into_checked(width);
+    let sheet = Checked::read(bytes, Width::new(4)?).ok()?;
     if let Err(refusal) = names(&sheet) {
-        return Err(place(refusal));
+        return Some(Err(refusal));
     }
     if let Kind::Composite = sheet.interface().kind {
-        return Err(OTHER);
+        return None;
     }
-    match card::<Ticks, Keep>(&sheet, rows, out) {
-        Ok(lens) => Ok(lens),
-        Err(refusal) => Err(place(refusal)),
-    }
+    Some(card::<Ticks, Keep>(&sheet, rows, out))
 }
 
-// How long the list of event 0 is, or the place of a refusal.
-fn length_of(heap: Global, bytes: &[u8]) -> Result<Result<usize, usize>, AllocError> {
+// How long the list of event 0 is, or what is answered instead.
+fn length_of(heap: Global, bytes: &[u8]) -> Result<Option<Result<usize, Refusal>>, AllocError> {
     let mut rows = vec![in heap; Entry::zero(); 3072]?;
     let mut out = vec![in heap; Entry::zero(); 128]?;
-    match work(bytes, &mut rows, &mut out) {
-        Ok(lens) => Ok(Ok(lens[0])),
-        Err(place) => Ok(Err(place)),
-    }
+    Ok(worked(bytes, &mut rows, &mut out).map(|answer| answer.map(|lens| lens[0])))
 }
 
 // A state without actions, then so many that each send two outputs, no two the same pair.
@@ -93,9 +67,12 @@ fn branches(heap: Global, many: u8, event: u8) -> Result<Vec<u8>, AllocError> {
 fn too_long_at_state(rt: HostRuntime) -> Result<(), Fail> {
     let heap = rt.alloc();
     let sheet = branches(heap, 17, 255)?;
-    assert_eq!(rt; length_of(heap, &sheet)?, Err(0));
+    assert_eq!(rt;
+        length_of(heap, &sheet)?,
+        Some(Err(Refusal::TooLong { place: 0 }))
+    );
     let sheet = branches(heap, 16, 255)?;
-    assert_eq!(rt; length_of(heap, &sheet)?, Ok(16));
+    assert_eq!(rt; length_of(heap, &sheet)?, Some(Ok(16)));
     Ok(())
 }
 
@@ -103,9 +80,12 @@ fn too_long_at_state(rt: HostRuntime) -> Result<(), Fail> {
 fn too_long_at_event(rt: HostRuntime) -> Result<(), Fail> {
     let heap = rt.alloc();
     let sheet = branches(heap, 17, 0)?;
-    assert_eq!(rt; length_of(heap, &sheet)?, Err(256));
+    assert_eq!(rt;
+        length_of(heap, &sheet)?,
+        Some(Err(Refusal::TooLong { place: 256 }))
+    );
     let sheet = branches(heap, 16, 0)?;
-    assert_eq!(rt; length_of(heap, &sheet)?, Ok(16));
+    assert_eq!(rt; length_of(heap, &sheet)?, Some(Ok(16)));
     Ok(())
 }
 
@@ -118,13 +98,9 @@ fn published_chart(rt: HostRuntime) -> Result<(), Fail> {
         1, 0, 3, 1, 1, 2, 2, 0, 12, 0, 0, 0, 10, 0, 0, 0, 3, 0, 0, 0, 5, 3, 0, 0, 3, 0, 2, 0, 0, 3,
         0, 2, 1, 0, 3, 0, 2, 2, 1, 4, 0, 3, 0, 1, 0, 4, 0, 3, 0, 2, 0, 4, 0, 3, 2, 3, 255,
     ]?;
-    match work(&sheet, &mut rows, &mut out) {
-        Ok(lens) => assert_eq!(rt; lens[0], 2),
-        Err(_) => assert!(rt; false),
-    }
-    assert_eq!(rt; out[0].amount.value, 10);
-    assert_eq!(rt; out[0].counts.at, [1, 0, 0, 0, 0, 0, 0, 0]);
-    assert_eq!(rt; out[1].amount.value, 8);
-    assert_eq!(rt; out[1].counts.at, [1, 1, 0, 0, 0, 0, 0, 0]);
+    let lens = worked(&sheet, &mut rows, &mut out).and_then(|answer| answer.ok());
+    assert_eq!(rt; lens.map(|lens| lens[0]), Some(2));
+    assert_eq!(rt; out[0], entry(10, &[1]));
+    assert_eq!(rt; out[1], entry(8, &[1, 1]));
     Ok(())
 }

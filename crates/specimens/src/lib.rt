@@ -20,26 +20,19 @@ pub fn nothing_guarded<M: Measure, R: Reducer<M>>()
 #[cfg(test)]
 mod chart_tests;
 #[cfg(test)]
+mod entries;
+#[cfg(test)]
 mod network_sheets;
 #[cfg(test)]
 mod network_tests;
 
 #[cfg(test)]
 mod tests {
-    use costs::counts::Counts;
+    use crate::entries::entry;
     use costs::entry::Entry;
     use costs::keep::Keep;
-    use costs::measure::Measure;
     use costs::merge::Merge;
     use costs::reducer::Reducer;
-    use costs::ticks::Ticks;
-
-    fn entry(amount: u32, counts: &[u8]) -> Entry<Ticks> {
-        Entry {
-            amount: Ticks { value: amount },
-            counts: Counts::read(counts),
-        }
-    }
 
     #[test]
     fn keep_and_merge(rt: HostRuntime) {
@@ -51,11 +44,8 @@ mod tests {
         ];
         let mut into = [Entry::zero(); 4];
         assert_eq!(rt; Keep::reduce(&rows, &mut into), 2);
-        assert_eq!(rt; into[0].amount.value, 5);
-        assert_eq!(rt; into[1].amount.value, 3);
-        assert_eq!(rt; into[1].counts.count(0), 2);
+        assert_eq!(rt; &into[..2], [entry(5, &[1]), entry(3, &[2])].as_slice());
         assert_eq!(rt; Merge::reduce(&rows, &mut into), 1);
-        assert_eq!(rt; into[0].amount.value, 5);
-        assert_eq!(rt; into[0].counts.count(0), 2);
+        assert_eq!(rt; into[0], entry(5, &[2]));
     }
 }

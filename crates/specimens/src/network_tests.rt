@@ -2,8 +2,8 @@
 ghost use Rattle.std.specs.Prelude.{◌≤◌, length, if◌then◌else◌, nat_eq};
 ghost use Rattle.costs.specs.Lists.{Sized};
 
+use crate::entries::entry;
 use crate::network_sheets::{CIRCLE, FEEDBACK, MANY, SELF_LOOP, UNCOUNTED};
-use costs::counts::Counts;
 use costs::entry::Entry;
 use costs::keep::Keep;
 use costs::measure::Measure;
@@ -12,9 +12,8 @@ use networks::beneath::{Beneath, Face};
 use networks::card::card;
 use networks::naming::names;
 use networks::refusal::Refusal;
-use sheets::opened::{Opened, framing};
+use sheets::opened::Checked;
 use sheets::width::Width;
-use std::test::Fail;
 
 // The block of both instances has two inputs and two outputs: one entry for event 0, two for event 1.
 #[derive(Drop)]
@@ -42,13 +41,6 @@ impl Beneath<Ticks> for Blocks {
     }
 }
 
-fn entry(amount: u32, counts: &[u8]) -> Entry<Ticks> {
-    Entry {
-        amount: Ticks { value: amount },
-        counts: Counts::read(counts),
-    }
-}
-
 // The answer of the working; none where the sheet is refused before.
 fn worked(
     bytes: &[u8],
@@ -58,24 +50,10 @@ fn worked(
     requires lists { Sized blocks.now.first × Sized blocks.now.other }
     requires out { 128 ≤ length out.old }
 {
-    if framing(bytes).is_err() {
-        return None;
-    }
-    let opened = Opened::new(bytes);
-    let Some(width) = Width::new(4) else {
-        return None;
-    };
-    if opened.check(width).is_err() {
-        return None;
-    }
-    let sheet = opened.into_checked(width);
-    match names::<Ticks, Blocks>(&sheet, blocks) {
-        Err(_) => None,
-        Ok(_) => {
-            let mut rows = [Entry::zero(); 3072];
-            Some(card::<Ticks, Keep, Blocks>(&sheet, blocks, &mut rows, out))
-        }
-    }
+    let sheet = Checked::read(bytes, Width::new(4)?).ok()?;
+    names::<Ticks, Blocks>(&sheet, blocks).ok()?;
+    let mut rows = [Entry::zero(); 3072];
+    Some(card::<Ticks, Keep, Blocks>(&sheet, blocks, &mut rows, out))
 }
 
 // Event 0 costs 10 and sends output 0, event 1 costs 5 and sends output 1.
@@ -91,16 +69,8 @@ fn plain_blocks() -> Blocks
 // The amount of the one entry for event 0, in ticks, and its count at output 0; none where there is no such card.
 fn alone(bytes: &[u8]) -> Option<(u32, u8)> {
     let mut out = [Entry::zero(); 128];
-    let answer = worked(bytes, &plain_blocks(), &mut out);
-    match answer {
-        Some(Ok(lens)) => {
-            if lens[0] == 1 {
-                return Some((out[0].amount.value, out[0].counts.count(0)));
-            }
-            None
-        }
-        _ => None,
-    }
+    let lens = worked(bytes, &plain_blocks(), &mut out)?.ok()?;
+    (lens[0] == 1).then_some((out[0].amount.value, out[0].counts.count(0)))
 }
 
 // From outside straight outside.
@@ -115,44 +85,24 @@ fn accepted(rt: HostRuntime) {
 }
 
 #[test]
-fn circle(rt: HostRuntime) -> Result<(), Fail> {
+fn circle(rt: HostRuntime) {
     let mut out = [Entry::zero(); 128];
-    match worked(&CIRCLE, &plain_blocks(), &mut out) {
-        Some(Err(Refusal::Circle { place })) => {
-            assert_eq!(rt; place, 0);
-            Ok(())
-        },
-        _ => {
-            assert!(rt; false);
-            Ok(())
-        },
-    }
+    let answer = worked(&CIRCLE, &plain_blocks(), &mut out);
+    assert_eq!(rt; answer, Some(Err(Refusal::Circle { place: 0 })));
 }
 
 // So many events to (30; 1), (10; 2): the length of the list.
-fn events(n: u8) -> Option<Result<[usize; 8], Refusal>> {
+fn events(n: u8) -> Option<Result<usize, Refusal>> {
     let blocks = Blocks {
         first: [entry(0, &[n])],
         other: [entry(30, &[1]), entry(10, &[2])],
     };
     let mut out = [Entry::zero(); 128];
-    worked(&MANY, &blocks, &mut out)
+    worked(&MANY, &blocks, &mut out).map(|answer| answer.map(|lens| lens[0]))
 }
 
 #[test]
-fn many_events(rt: HostRuntime) -> Result<(), Fail> {
-    match events(15) {
-        Some(Ok(lens)) => assert_eq!(rt; lens[0], 16),
-        _ => assert!(rt; false),
-    }
-    match events(16) {
-        Some(Err(Refusal::TooLong { place })) => {
-            assert_eq!(rt; place, 0);
-            Ok(())
-        },
-        _ => {
-            assert!(rt; false);
-            Ok(())
-        },
-    }
+fn many_events(rt: HostRuntime) {
+    assert_eq!(rt; events(15), Some(Ok(16)));
+    assert_eq!(rt; events(16), Some(Err(Refusal::TooLong { place: 0 })));
 }
