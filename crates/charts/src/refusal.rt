@@ -1,6 +1,6 @@
 // Why a basic or a service sheet is refused.
 
-#[derive(Clone, Copy)]
+#[derive(Clone, Copy, PartialEq, Eq, Debug)]
 pub enum Refusal {
     // A number names nothing; the offset of the field that has it, in bytes.
     Unnamed { at: usize },

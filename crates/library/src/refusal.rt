@@ -18,7 +18,7 @@ pub enum Table {
     Out,
 }
 
-#[derive(Clone, Copy)]
+#[derive(Clone, Copy, PartialEq, Eq, Debug)]
 pub enum Refusal {
     // the bytes make no sheet
     Sheet(SheetRefusal),

@@ -1,5 +1,5 @@
 // Why a composite block is turned down.
-#[derive(Clone, Copy, Debug)]
+#[derive(Clone, Copy, PartialEq, Eq, Debug)]
 pub enum Refusal {
     // a connection's instance or port names nothing; `at` is the offset of its field in the sheet, in bytes
     Unnamed { at: usize },

@@ -1,19 +1,11 @@
 -- Each target with its list. Assumes nothing.
-use Rattle.std.proofs.Common.{◌+◌, ◌*◌, ◌≤◌, get_or, sym, ap, ◌∙◌, subst, arith}
-use Rattle.networks.proofs.Small.{get_or_within}
+use Rattle.std.proofs.Common.{sym, ap, ◌∙◌, subst}
 use Rattle.networks.specs.Cards.{Joins, target_list}
 use Rattle.networks.specs.Drafts.{drafted}
 use Rattle.networks.specs.Forming.{Forms}
-use Rattle.networks.specs.Rows.{Filled, table_at}
+use Rattle.networks.specs.Rows.{table_at}
 use Rattle.networks.proofs.room.Room.follow.Goals as goal
 use Rattle.sheets.specs.declared.words.End.{End}
-
-pub list-list-requires : goal.list-list-requires
-list-list-requires g c =
-    let lens = c.args.lists.now.lens in
-    let k = 8 * c.in-Inside.instance + c.in-Inside.port in
-    let some : 1 ≤ get_or lens k 0 = subst (Filled lens) c.in-Inside.is c.requires in
-    (omega arith, omega (arith, get_or_within lens k some, c.args.lists.now.all))
 
 pub returns-in-Outside-clause-came : goal.returns-in-Outside-clause-came
 returns-in-Outside-clause-came g c =
