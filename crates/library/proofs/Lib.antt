@@ -21,7 +21,6 @@ pub mod Wiring
 pub mod Determined
 pub mod Fixing
 pub mod Stepping
-pub mod Clamps
 pub mod Leaning
 pub mod Retimes
 pub mod Shows

@@ -4,18 +4,18 @@
 mod apply;
 mod beneath;
 pub mod calls;
-pub mod card;
-pub mod enter;
+mod card;
+mod enter;
 mod instances;
 mod mark;
-pub mod new;
+mod new;
 mod place;
-pub mod preview;
+mod preview;
 mod readers;
 pub mod refusal;
-pub mod replay;
-pub mod retime;
-pub mod rework;
+mod replay;
+mod retime;
+mod rework;
 pub mod row;
 mod tables;
 

@@ -5,8 +5,6 @@ use Rattle.library.specs.Books.{rules}
 use Rattle.library.proofs.Reworked.{checked_again}
 use Rattle.library.proofs.Kept.check_again.Goals as goal
 
-
-
 pub returns : goal.returns
 returns g c =
     let sheet = c.args.sheet.now in

@@ -21,7 +21,6 @@ returns-then-out-lt128 g c =
     let lent = lent_of (length c.args.rows.now) (length c.args.out.now) in
     record { same = λ _. refl; found = λ _. inl (record { place = 5; first = previews_out lent (omega arith) (omega arith); is = refl }) }
 
-
 pub returns-in_err-lens : goal.returns-in_err-lens
 returns-in_err-lens g c =
     let lent = lent_of (length c.args.rows.now) (length c.args.out.now) in

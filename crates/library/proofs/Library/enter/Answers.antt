@@ -12,7 +12,6 @@ use Rattle.library.proofs.Entered.{bad_answer, bad_book, enter_answer, enter_she
 use Rattle.library.proofs.Passing.{passed_is, same_tables}
 use Rattle.library.proofs.Library.enter.Goals as goal
 
-
 pub returns-in_err-checked : goal.returns-in_err-checked
 returns-in_err-checked g c =
     let R = rules g.M.Measure.ops g.M.Measure.wide g.M.Measure.meant g.R.Reducer.gives in

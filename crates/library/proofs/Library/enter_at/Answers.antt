@@ -14,8 +14,6 @@ use Rattle.library.proofs.Entered.{kept_from}
 use Rattle.library.proofs.Passing.{over}
 use Rattle.library.proofs.Library.enter_at.Goals as goal
 
-
-
 pub returns : goal.returns
 returns g c =
     let sheet = c.args.sheet.now in

@@ -6,10 +6,9 @@ use Rattle.library.specs.Marks.{leans, kept_names, with_mark}
 use Rattle.library.specs.Tables.{no_row, row_at}
 use Rattle.library.specs.declared.Library.{Library}
 use Rattle.library.specs.declared.row.Row.{Row}
-use Rattle.library.proofs.Marks.{Marking, marking_all, marking_skip, marking_set}
+use Rattle.library.proofs.Marks.{Marking, marking_skip, marking_set}
 use Rattle.library.proofs.Library.mark.Goals as goal
 use Rattle.library.proofs.Library.mark.Goals.{then-n-block, then-n-block-via-then-n-block, then-n-block-via-else-n-block+then-leans_on, else-n-block+else-leans_on}
-
 
 pub loop-n-preserved : goal.loop-n-preserved
 loop-n-preserved g c =
@@ -50,13 +49,3 @@ loop-n-preserved g c =
                 (same ∙ sym (ap₂ by_tables (w.kept.ensures.shelf ∙ l.invariant.1) w.kept.ensures.index) ∙ sym w.leans_on.ensures ∙ w.if-leans_on.false),
           )
     ]
-
-pub returns : goal.returns
-returns g c =
-    let e : c.loop-n.n ≡ c.args.count = omega arith in
-    record {
-      tables = c.loop-n.invariant.0;
-      shelf = c.loop-n.invariant.1;
-      cards = c.loop-n.invariant.2;
-      marked = marking_all _ _ _ _ _ _ c.requires.block (subst (λ k. Marking g.M.Measure.wide c.args.self.now.shelf.now c.args.block k c.args.self.now.index.now c.loop-n.self.index.now) e c.loop-n.invariant.3);
-    }

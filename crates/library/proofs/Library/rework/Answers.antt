@@ -31,8 +31,6 @@ not-false : (x : Bool) → not x ≡ false → x ≡ true
 not-false true e = refl
 not-false false e = absurd (true≢false e)
 
-
-
 pub returns-then-block-count : goal.returns-then-block-count
 returns-then-block-count g c =
     let R = rules g.M.Measure.ops g.M.Measure.wide g.M.Measure.meant g.R.Reducer.gives in
