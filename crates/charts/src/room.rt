@@ -14,6 +14,7 @@ use costs::reducer::Reducer;
 
 // Reduces the first n rows into the first of `into`, and answers how many these are; none where the result is above 16.
 // A function beside the struct, as the next: in a method, a part of one lent field cannot be lent beside another field.
+// How many rows are gathered goes with them as a number: the loops that fill them (`gather`, `serve`) answer it, and the room outlives one gathering.
 fn reduce_first<M: Measure, R: Reducer<M>>(
     rows: &mut [Entry<M>],
     n: usize,

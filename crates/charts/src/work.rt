@@ -84,6 +84,7 @@ impl<'a, M: Measure> Chart<'a, M> {
     {
         blank(rows);
         let mut card = Lists::new(rows);
+        // by number: an event is nothing but its number, and its list is stored by it
         for e in 0..usize::from(self.sheet.interface().inputs) {
             let list = self
                 .form_event::<R>(e, lists, room)

@@ -1,4 +1,5 @@
 // What a reducer is: it turns 1 to 1,024 entries into at least one and no more than were given.
+// Rows are lent by the caller, here and in the crates above, which use no heap: a list that is made stands in the first of them, and its length is answered.
 ghost use Rattle.std.specs.Prelude.{◌≤◌, List, length};
 ghost use Rattle.costs.specs.Lists.{Sound, Reduced};
 ghost use Rattle.costs.specs.declared.entry.Entry.{Entry};

@@ -50,6 +50,7 @@ fn run(times: usize, size: usize) -> u64
     let mut rows = array::from_fn(|i| entry((i * 389 % 1024) as u32));
     let mut into = [Entry::zero(); 1024];
     let mut sum = 0;
+    // the number of the turn chooses the rows that are exchanged
     for n in 0..times {
         sum = turn(n, size, &mut rows, &mut into, sum);
     }

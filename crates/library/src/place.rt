@@ -58,7 +58,8 @@ fn is_fit<M: Measure, B: Beneath<M>>(sheet: &Checked<'_>, beneath: &B) -> bool
     (0..sheet.count(Item::Instance)).all(|i| is_block(beneath, i))
 }
 
-// Works the card of a basic or a service block.
+// Works the card of a basic or a service block. That the sheet has the measure's width, and how many rows are lent, stands in the contracts
+// and in no type: charts and networks take the checked sheet and the caller's rows themselves.
 fn work_chart<M: Measure, R: Reducer<M>>(
     sheet: &Checked<'_>,
     rows: &mut [Entry<M>],

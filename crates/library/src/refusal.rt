@@ -6,10 +6,10 @@ use charts::refusal::Refusal as ChartRefusal;
 use networks::refusal::Refusal as NetworkRefusal;
 use sheets::refusal::Refusal as SheetRefusal;
 
-// What there is no room in.
+// What there is no room in, by the number that tells it.
 #[derive(Clone, Copy, PartialEq, Eq, Debug)]
 pub enum Table {
-    Shelf,
+    Shelf = 1,
     Index,
     Cards,
     // the working rows

@@ -1,11 +1,11 @@
 // A refusal as it is told: by number, level and place.
 
-ghost use Rattle.library.specs.Refusals.{told as as_told, by_sheet, by_chart, by_network, table_number};
+ghost use Rattle.library.specs.Refusals.{told as as_told, by_sheet, by_chart, by_network};
 ghost use Rattle.listing.specs.Telling.{Tells};
 ghost use Rattle.std.specs.Prelude.{◌≡◌};
 
 use charts::refusal::Refusal as ChartRefusal;
-use library::refusal::{Refusal, Table};
+use library::refusal::Refusal;
 use networks::refusal::Refusal as NetworkRefusal;
 use sheets::refusal::Refusal as SheetRefusal;
 
@@ -68,19 +68,6 @@ impl From<NetworkRefusal> for Told {
     }
 }
 
-// The table without room, as a place.
-fn table_place(table: Table) -> usize
-    ensures { result ≡ table_number table }
-{
-    match table {
-        Table::Shelf => 1,
-        Table::Index => 2,
-        Table::Cards => 3,
-        Table::Rows => 4,
-        Table::Out => 5,
-    }
-}
-
 // Of the library, level 4, or of a layer beneath it.
 impl From<Refusal> for Told {
     ghost from_gives = { λ e t. Tells t (as_told e) };
@@ -94,7 +81,7 @@ impl From<Refusal> for Told {
             Refusal::NoBlock { place } => (3, place),
             Refusal::OutOfDate { place } => (4, place),
             Refusal::NoNumber { number } => (5, number),
-            Refusal::NoRoom { table } => (7, table_place(table)),
+            Refusal::NoRoom { table } => (7, table as usize),
         };
         Told {
             number,

@@ -81,6 +81,7 @@ impl<'a, M: Measure> Draft<'a, M> {
         requires room { 16 * length other.now ≤ length joined.old }
         ensures { Forms (Times M.Measure.ops R.gives n other.now (take self.old.len self.old.rows.now)) (take self.new.len self.new.rows.now) result }
     {
+        // so many times, with nothing to go over; each turn joins what the one before left
         for _ in 0..n {
             self.join::<R>(other, joined)?;
         }

@@ -70,6 +70,7 @@ impl<'a, M: Measure, B: Beneath<M>> Places<'a, M, B> {
         ensures { Forms (EntryList M.Measure.ops R.gives (table_at lists.now.rows.now lists.now.lens) self.now.net.connections.now i e) (drafted room.new.list) result }
     {
         room.list.begin(Entry::of(e.amount));
+        // by number: an output is nothing but its number, and its source is made of it
         for port in 0..8u8 {
             let n = e.counts.count(port as usize);
             self.send::<R>(End::Inside { instance: i, port }, n, lists, room)?;

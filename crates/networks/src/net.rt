@@ -7,7 +7,7 @@ use sheets::opened::Checked;
 use sheets::words::{Connection, End};
 use std::array;
 
-// Stands past the connections of a sheet.
+// Stands past the connections of a sheet: there is no heap, and an array has a value at each place.
 const UNUSED: Connection = Connection {
     source: End::Outside { port: 0 },
     target: End::Outside { port: 0 },

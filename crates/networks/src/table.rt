@@ -57,6 +57,7 @@ impl<'a, M: Measure, B: Beneath<M>> Places<'a, M, B> {
     {
         blank(rows);
         let mut results = Lists::<M, 8>::new(rows);
+        // by number: an event is nothing but its number, and its list is stored by it
         for e in 0..self.net.inputs {
             self.source_list::<R>(End::Outside { port: e as u8 }, lists, room)
                 .ok_or(Refusal::TooLong { place: 256 + e })?;

@@ -91,6 +91,7 @@ impl<'a, G: Graph> Working<'a, G> {
 // The working order of all nodes, in the first rows of `order`, and how many they are; or the lowest node that cannot be worked.
 // It asks for as many marks as there are numbers and for as many rows; what the marks and further rows hold afterwards is free.
 // An order of all nodes says that there is no circle; from a node that cannot be worked there are ways of every length.
+// What is refused is a node, and a node is its number: the refusals of the crates above name it as what it is there.
 pub fn plan<G: Graph>(graph: &G, marks: &mut [bool], order: &mut [usize]) -> Result<usize, usize>
     requires marks { length marks.old ≡ G.nodes graph.now }
     requires rows { length marks.old ≤ length order.old }

@@ -92,7 +92,8 @@ impl Seen {
         }
     }
 
-    // Not too many of its tag have come, nor of an entry's event, if that is an input.
+    // Not too many of its tag have come, nor of an entry's event, if that is an input. The tag goes beside the part whose byte it was made of,
+    // in three private functions that `follow` alone calls: a type for the pair would be taken apart in each.
     fn room(&self, tag: Tag, part: Part<'_>) -> bool
         requires { number tag ≡ part.tag }
         ensures { result ≡ room_in self.now (raw part.entry) }
