@@ -4,6 +4,7 @@ use Rattle.std.specs.List.{ContainsAt as Has}
 use Rattle.std.proofs.ByRecursion.{has_push_cases}
 use Rattle.costs.specs.Amounts.{Amounts}
 use Rattle.costs.specs.Entries.{entry_ops}
+use Rattle.costs.specs.Forming.{list}
 use Rattle.costs.specs.Measures.{ticks_ops, ticks_meant}
 use Rattle.costs.specs.Reducers.{kept}
 use Rattle.costs.specs.declared.entry.Entry.{Entry}
@@ -11,7 +12,7 @@ use Rattle.order.specs.Order.{Ready, Order, Complete}
 use Rattle.sheets.specs.Frames.{fields}
 use Rattle.sheets.specs.Sheets.{Sheet, sheet_of}
 use Rattle.sheets.specs.declared.words.Kind.TheVariants.{Basic}
-use Rattle.charts.specs.Forming.{Outcome, made, list}
+use Rattle.charts.specs.Forming.{Outcome, made}
 use Rattle.charts.specs.Charts.{state_cost, guarded, State, Leads}
 use Rattle.charts.specs.Cards.{put, no_lists, EventList, Events, States}
 use Rattle.charts.specs.Evaluation.{basic_card}

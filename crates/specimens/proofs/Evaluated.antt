@@ -4,10 +4,11 @@ use Rattle.std.specs.List.{flat_map}
 use Rattle.std.proofs.lemmas.Bool.{cond_both, leb-true, leb-false}
 use Rattle.costs.specs.Amounts.{Amounts}
 use Rattle.costs.specs.Entries.{entry_ops}
+use Rattle.costs.specs.Forming.{Formation, list, long, Reduces}
 use Rattle.costs.specs.Lists.{sums, By}
 use Rattle.costs.specs.declared.entry.Entry.{Entry}
 use Rattle.sheets.specs.Sheets.{Sheet}
-use Rattle.charts.specs.Forming.{Formation, list, long, Reduces, Outcome, After}
+use Rattle.charts.specs.Forming.{Outcome, After}
 use Rattle.charts.specs.Charts.{state_cost, frees, guarded}
 use Rattle.charts.specs.Cards.{put, no_lists, StateList, EventList, Events, States, BasicCard}
 use Rattle.charts.specs.Evaluation.{reduced, after, events_by, state_list, event_list, states_by, basic_card}
