@@ -16,12 +16,13 @@ use Rattle.library.specs.Checks.{Lent, MisnamedBy, NamedBy, Blocks, blocks_of, V
 use Rattle.library.specs.Law.{GoesOn}
 use Rattle.library.specs.Marks.{Counted, kept_bytes}
 use Rattle.library.specs.Memory.{Stands}
-use Rattle.library.specs.Placing.{lent_of, faces_kept, Old, CardIn, Again, Redone, Regular, Renewed, Reworks}
+use Rattle.library.specs.Placing.{lent_of, faces_kept, Old, CardIn, Again, Redone, Regular, Renewed, Reworks, Settled}
 use Rattle.library.specs.Refusals.{told, by_library}
 use Rattle.library.specs.Replies.{verdict, reply}
 use Rattle.library.specs.Steps.{Renewing, Reworking, rework, done, refused, no_rework}
 use Rattle.library.specs.Tables.{no_row, row_at, row_of, lens_of, card_rows, overwritten, blocks_kept, kept_list}
 use Rattle.library.specs.declared.refusal.Refusal.{Refusal}
+use Rattle.library.specs.declared.refusal.Refusal.TheVariants.{NoBlock}
 use Rattle.library.specs.declared.row.Row.{Row}
 use Rattle.library.proofs.Answering.{goes_same}
 use Rattle.library.proofs.Entered.{fit_any}
@@ -29,7 +30,7 @@ use Rattle.library.proofs.Forming.{off_card, names_pass}
 use Rattle.library.proofs.Parts.{part_written}
 use Rattle.library.proofs.Placing.{mark_stale, named_back, renewing_to}
 use Rattle.library.proofs.Reading.{counted_is, framed_kept, right_kept, says_kept, book_current, list_is}
-use Rattle.library.proofs.Renewing.{rework_done, reworked_index}
+use Rattle.library.proofs.Renewing.{rework_missing, rework_current, rework_done, reworked_index}
 use Rattle.library.proofs.Rows.{length_card_rows}
 
 -- a card worked again, in its rows and its row
@@ -83,21 +84,21 @@ module _ {M : Type 0} (rules : Rules M) (laws : Lawful rules.ops) (sound : Sound
     is_size : count ≡ size b
     is_size = counted_is st count counted
 
-    pub missing_answer : count ≤ n → Reworks rules b lent n (turned (by_library 3 n))
+    missing_answer : count ≤ n → Reworks rules b lent n (turned (by_library 3 n))
     missing_answer high = Reworks.no_block (omega (arith, high, is_size))
 
     module _ (lt : n < count) where
       low : n < size b
       low = omega (arith, lt, is_size)
 
-      pub current_answer : (row_at index n).old ≡ false → Reworks rules b lent n (fine (kept_list index cards n))
+      current_answer : (row_at index n).old ≡ false → Reworks rules b lent n (fine (kept_list index cards n))
       current_answer new = Reworks.current (low, book_current st n low new) (kept_list index cards n) (λ k e. list_is st n e k)
 
-      pub not_stale : (row_at index n).old ≡ false → Stale b n → ⊥
+      not_stale : (row_at index n).old ≡ false → Stale b n → ⊥
       not_stale new = book_current st n low new
 
       -- a kept sheet is a sheet
-      pub is_kept : (is_ok (framing_of (kept_bytes shelf (row_at index n))) && is_ok (check_of rules.wide (kept_bytes shelf (row_at index n)))) ≡ true
+      is_kept : (is_ok (framing_of (kept_bytes shelf (row_at index n))) && is_ok (check_of rules.wide (kept_bytes shelf (row_at index n)))) ≡ true
       is_kept = and_from _ _ (framed_kept st n low) (right_kept st n low)
 
       pub no_kept : (row : Row) → row ≡ row_at index n → (is_ok (framing_of (kept_bytes shelf row)) && is_ok (check_of rules.wide (kept_bytes shelf row))) ≡ false → ⊥
@@ -146,21 +147,21 @@ module _ {M : Type 0} (rules : Rules M) (laws : Lawful rules.ops) (sound : Sound
             now_cards : cards' ≡ overwritten cards (128 * n) (card_rows (entry_ops rules.ops).zero (kept_list index' cards' n))
             now_cards = h.cards_is ∙ ap (λ c. overwritten cards (128 * n) (card_rows (entry_ops rules.ops).zero c)) (sym held)
 
-          pub renew_answer : (r : Result Unit Refusal) → RenewCase r → Reworks rules b lent n (verdict (λ _. kept_list index' cards' n) r)
+          renew_answer : (r : Result Unit Refusal) → RenewCase r → Reworks rules b lent n (verdict (λ _. kept_list index' cards' n) r)
           renew_answer (Ok u) h = Reworks.outdated low was _ (subst (λ c. Reworking rules b lent n (fine c)) (sym (held h)) (renewing_book (fine h.card) (h.renewing regular)))
           renew_answer (Err e) h = Reworks.outdated low was _ (renewing_book (turned (told e)) (h regular))
 
-          pub renew_index : (r : Result Unit Refusal) → RenewCase r → is_ok r ≡ true → ((Stale b n → ⊥) → index' ≡ index) × (Stale b n → index' ≡ set index n (row_of (with_work b n (kept_list index' cards' n)) n false))
+          renew_index : (r : Result Unit Refusal) → RenewCase r → is_ok r ≡ true → ((Stale b n → ⊥) → index' ≡ index) × (Stale b n → index' ≡ set index n (row_of (with_work b n (kept_list index' cards' n)) n false))
           renew_index (Ok u) h ok = ((λ new. absurd (new was)), λ _. now_index h)
           renew_index (Err e) h ok = absurd (false≢true ok)
 
-          pub renew_cards : (r : Result Unit Refusal) → RenewCase r → is_ok r ≡ true
+          renew_cards : (r : Result Unit Refusal) → RenewCase r → is_ok r ≡ true
               → ((Stale b n → ⊥) → cards' ≡ cards) × (Stale b n → cards' ≡ overwritten cards (128 * n) (card_rows (entry_ops rules.ops).zero (kept_list index' cards' n)))
           renew_cards (Ok u) h ok = ((λ new. absurd (new was)), λ _. now_cards h)
           renew_cards (Err e) h ok = absurd (false≢true ok)
 
   -- the book goes on
-  pub renew_goes : n < count → (row_at index n).old ≡ true → (index' : List Row) (cards' : List (Entry M)) (r : Result Unit Refusal)
+  renew_goes : n < count → (row_at index n).old ≡ true → (index' : List Row) (cards' : List (Entry M)) (r : Result Unit Refusal)
       → MatchResult r (λ _. Renewed rules kept_sheet count index cards lent n index' cards') (λ e. Regular rules kept_sheet count index cards lent n → Renewing rules v kept_sheet lent (turned (told e)))
       → (is_ok r ≡ false → (index' ≡ index) × (cards' ≡ cards)) → GoesOn rules (rework n) lent (reply (λ _. done) r) shelf index cards shelf index' cards'
   renew_goes lt old index' cards' (Ok u) h same =
@@ -169,3 +170,42 @@ module _ {M : Type 0} (rules : Rules M) (laws : Lawful rules.ops) (sound : Sound
       let is = same refl in
       subst₂ (λ x y. GoesOn rules (rework n) lent (refused (told e)) shelf index cards shelf x y) (sym is.0) (sym is.1)
       (goes_same rules laws sound shelf index cards lent (rework n) (refused (told e)) (λ b st. no_rework n lent (told e) (low b st lt) (was b st lt old) (renewing_book b st lt old (turned (told e)) (h (regular b st lt)))))
+
+  -- what rework promises, case by case
+  pub settled_missing : count ≤ n → Settled rules lent n shelf index cards (Err (NoBlock n)) index cards
+  settled_missing high =
+      record {
+        answer = λ b st. missing_answer b st high;
+        index_is = λ b st ok. absurd (false≢true ok);
+        cards_is = λ b st ok. absurd (false≢true ok);
+        book = rework_missing rules laws sound shelf index cards lent count counted n high;
+      }
+
+  pub settled_current : n < count → (row_at index n).old ≡ false → Settled rules lent n shelf index cards (Ok tt) index cards
+  settled_current lt new =
+      record {
+        answer = λ b st. current_answer b st lt new;
+        index_is = λ b st ok. ((λ _. refl), λ stale. absurd (not_stale b st lt new stale));
+        cards_is = λ b st ok. ((λ _. refl), λ stale. absurd (not_stale b st lt new stale));
+        book = rework_current rules laws sound shelf index cards lent count counted n lt new;
+      }
+
+  pub settled_nowhere : ((b : Book M) → Stands rules b shelf index cards → ⊥) → (e : Refusal) → Settled rules lent n shelf index cards (Err e) index cards
+  settled_nowhere gone e =
+      record {
+        answer = λ b st. absurd (gone b st);
+        index_is = λ b st ok. absurd (false≢true ok);
+        cards_is = λ b st ok. absurd (false≢true ok);
+        book = λ b st. absurd (gone b st);
+      }
+
+  pub settled_renewed : n < count → (row_at index n).old ≡ true → (index' : List Row) (cards' : List (Entry M)) (r : Result Unit Refusal)
+      → MatchResult r (λ _. Renewed rules kept_sheet count index cards lent n index' cards') (λ e. Regular rules kept_sheet count index cards lent n → Renewing rules v kept_sheet lent (turned (told e)))
+      → (is_ok r ≡ false → (index' ≡ index) × (cards' ≡ cards)) → Settled rules lent n shelf index cards r index' cards'
+  settled_renewed lt old index' cards' r h same =
+      record {
+        answer = λ b st. renew_answer b st lt old index' cards' r h;
+        index_is = λ b st. renew_index b st lt old index' cards' r h;
+        cards_is = λ b st. renew_cards b st lt old index' cards' r h;
+        book = renew_goes lt old index' cards' r h same;
+      }

@@ -1,5 +1,5 @@
 -- What the functions behind enter, preview and rework find in the tables. Assumes nothing.
-use Rattle.std.specs.Prelude.{◌≡◌, ℕ, ◌+◌, ◌*◌, ◌<◌, ◌≤◌, true, false, ◌⊎◌, List, [], length, take, slice_index_or, slice_set}
+use Rattle.std.specs.Prelude.{◌≡◌, ℕ, ◌+◌, ◌*◌, ◌<◌, ◌≤◌, true, false, ◌⊎◌, List, [], length, take, drop, is_ok, Ok, Result, slice_index_or, slice_set}
 use Rattle.costs.specs.Entries.{entry_ops}
 use Rattle.costs.specs.Lists.{Sized}
 use Rattle.costs.specs.declared.entry.Entry.{Entry}
@@ -8,12 +8,16 @@ use Rattle.networks.specs.Rows.{list_at}
 use Rattle.networks.specs.declared.beneath.Face.{Face}
 use Rattle.sheets.specs.Refusals.{framing_of, check_of}
 use Rattle.sheets.specs.Sheets.{Sheet, sheet_of}
-use Rattle.library.specs.Books.{Rules, Book, size, at, instance_of, Stale, Current}
+use Rattle.library.specs.Books.{Rules, Book, size, at, instance_of, with_work, Stale, Current}
 use Rattle.library.specs.Checks.{Lent, Blocks, Verdict, turned, fine, Never, FirstAt, Bad, Framed, Missing, Behind, cards_beneath, network, Misnamed, Named, CardOf}
+use Rattle.library.specs.Law.{GoesOn}
 use Rattle.library.specs.Marks.{Counted, kept_end}
+use Rattle.library.specs.Memory.{Stands}
 use Rattle.library.specs.Refusals.{Told, by_library}
-use Rattle.library.specs.Steps.{EnterLacks, PreviewLacks, Placing, Renewing, Reworking}
-use Rattle.library.specs.Tables.{row_at, lens_of, card_rows, overwritten, kept_face, kept_list, blocks_kept, sizes_of}
+use Rattle.library.specs.Replies.{verdict, reply}
+use Rattle.library.specs.Steps.{EnterLacks, PreviewLacks, Placing, Renewing, Reworking, rework, done}
+use Rattle.library.specs.Tables.{row_at, row_of, lens_of, card_rows, overwritten, kept_face, kept_list, blocks_kept, sizes_of}
+use Rattle.library.specs.declared.refusal.Refusal.{Refusal}
 use Rattle.library.specs.declared.row.Row.{Row}
 
 -- so many working rows and so many of the caller's rows
@@ -133,3 +137,16 @@ pub record Redone {M : Type 0} (rules : Rules M) (v : Blocks M) (s : Sheet) (n :
   pub sized : (e : ℕ) → e < s.face.inputs → Sized (card e)
   pub index_is : index' ≡ slice_set index n (record { used = (row_at index n).used; start = (row_at index n).start; len = (row_at index n).len; inputs = (row_at index n).inputs; outputs = (row_at index n).outputs; lens = lens_of card; old = false })
   pub cards_is : cards' ≡ overwritten cards (128 * n) (card_rows (entry_ops rules.ops).zero card)
+
+-- what rework of block n promises of its answer, the index and the cards, by every book that the tables stood for
+pub record Settled {M : Type 0} (rules : Rules M) (lent : Lent) (n : ℕ) (shelf : List ℕ) (index : List Row) (cards : List (Entry M)) (r : Result Unit Refusal) (index' : List Row) (cards' : List (Entry M)) : Type 0 where
+  pub answer : (b : Book M) → Stands rules b shelf index cards → Reworks rules b lent n (verdict (λ _. kept_list index' cards' n) r)
+  pub index_is : (b : Book M) → Stands rules b shelf index cards → is_ok r ≡ true → ((Stale b n → ⊥) → index' ≡ index) × (Stale b n → index' ≡ slice_set index n (row_of (with_work b n (kept_list index' cards' n)) n false))
+  pub cards_is : (b : Book M) → Stands rules b shelf index cards → is_ok r ≡ true → ((Stale b n → ⊥) → cards' ≡ cards) × (Stale b n → cards' ≡ overwritten cards (128 * n) (card_rows (entry_ops rules.ops).zero (kept_list index' cards' n)))
+  pub book : GoesOn rules (rework n) lent (reply (λ _. done) r) shelf index cards shelf index' cards'
+
+-- the card of block n, worked again, stands in the working rows from row 2,816 on, its lists of these lengths: written as the block's, it keeps the promise of rework
+pub record Reworked {M : Type 0} (rules : Rules M) (lent : Lent) (n : ℕ) (shelf : List ℕ) (index : List Row) (cards : List (Entry M)) (rows : List (Entry M)) (lens : List ℕ) : Type 0 where
+  pub many : 3072 ≤ length rows
+  pub room : (n < length index) × (128 * n + 128 ≤ length cards)
+  pub written : (index' : List Row) (cards' : List (Entry M)) → index' ≡ slice_set index n (renewed_row (row_at index n) lens) → cards' ≡ overwritten cards (128 * n) (take 128 (drop 2816 rows)) → Settled rules lent n shelf index cards (Ok tt) index' cards'

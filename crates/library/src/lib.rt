@@ -15,7 +15,7 @@ mod readers;
 pub mod refusal;
 mod replay;
 mod retime;
-mod rework;
+pub mod rework;
 pub mod row;
 mod tables;
 
