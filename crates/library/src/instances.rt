@@ -1,5 +1,5 @@
 // Checks 3 and 4: the first instance whose block is not there, and the first whose block's card is out of date.
-ghost use Rattle.std.specs.Prelude.{◌≡◌, ◌≤◌, length, take, Decides, MatchOption};
+ghost use Rattle.std.specs.Prelude.{◌≡◌, length, take, Decides, MatchOption};
 ghost use Rattle.charts.specs.Naming.{says};
 ghost use Rattle.library.specs.Checks.{First, Never};
 ghost use Rattle.library.specs.Placing.{Beyond, Old};
@@ -8,6 +8,7 @@ use crate::Kept;
 use costs::measure::Measure;
 use sheets::opened::Checked;
 use sheets::words::Item;
+use std::array;
 
 // Whether there is an instance k, and it names no block below n.
 fn is_beyond(sheet: &Checked<'_>, k: usize, n: usize) -> bool
@@ -23,18 +24,11 @@ pub(crate) fn missing(sheet: &Checked<'_>, n: usize) -> Option<usize>
     (0..sheet.count(Item::Instance)).find(|k| is_beyond(sheet, *k, n))
 }
 
-// Copies the number of each instance's block into the first places of `into`, and answers how many there are.
-pub(crate) fn read_names(sheet: &Checked<'_>, into: &mut [u8]) -> usize
-    requires { 16 ≤ length into.old }
-    ensures within { result ≤ length into.new }
-    ensures names { take result into.new ≡ (says sheet.now).instances }
+// The numbers of the instances' blocks: as many as there are instances, and 255, which is no block, past them.
+pub(crate) fn read_names(sheet: &Checked<'_>) -> [u8; 16]
+    ensures { take (length (says sheet.now).instances) result ≡ (says sheet.now).instances }
 {
-    let n = sheet.count(Item::Instance);
-    // by number: a sheet's instances are read by it, and `into` may be longer
-    for k in 0..n {
-        into[k] = sheet.instance(k).unwrap();
-    }
-    n
+    array::from_fn(|k| sheet.instance(k).unwrap_or(255))
 }
 
 impl<'a, M: Measure> Kept<'a, M> {

@@ -82,11 +82,10 @@ impl<'a, M: Measure> Kept<'a, M> {
     fn check_wires(&self, sheet: &Checked<'_>) -> Result<(), Refusal>
         ensures { MatchResult result (λ _. NamedNetwork (network_of (says sheet.now) (faces_kept self.now.index.now (says sheet.now).instances)) × Distinct (says sheet.now).connections) (λ e. Miswired (network_of (says sheet.now) (faces_kept self.now.index.now (says sheet.now).instances)) sheet.now.bytes.now (told e)) }
     {
-        let mut names = [0; 16];
-        let n = read_names(sheet, &mut names);
+        let names = read_names(sheet);
         let below = Below {
             kept: *self,
-            names: &names[..n],
+            names: &names[..sheet.count(Item::Instance)],
         };
         networks::naming::names(sheet, &below)?;
         Ok(())
@@ -129,11 +128,10 @@ impl<'a, M: Measure> Kept<'a, M> {
         ensures answer { Fit (network_of (says sheet.now) (faces_kept self.now.index.now (says sheet.now).instances)) (cards_kept self.now.index.now self.now.cards.now (says sheet.now).instances) → MatchResult result (λ lens. CardOver (rules M.Measure.ops M.Measure.wide M.Measure.meant R.Reducer.gives) (faces_kept self.now.index.now (says sheet.now).instances) (cards_kept self.now.index.now self.now.cards.now (says sheet.now).instances) (says sheet.now) (list_at card.new lens)) (λ e. StopsBy (rules M.Measure.ops M.Measure.wide M.Measure.meant R.Reducer.gives) (faces_kept self.now.index.now (says sheet.now).instances) (cards_kept self.now.index.now self.now.cards.now (says sheet.now).instances) (says sheet.now) (says sheet.now).face.kind (told e)) }
         ensures rows { IfOk result (λ lens. CardIn (entry_ops M.Measure.ops).zero (says sheet.now).face.inputs card.new lens) }
     {
-        let mut names = [0; 16];
-        let n = read_names(sheet, &mut names);
+        let names = read_names(sheet);
         let below = Below {
             kept: *self,
-            names: &names[..n],
+            names: &names[..sheet.count(Item::Instance)],
         };
         if !is_fit(sheet, &below) {
             return Err(Refusal::NoBlock { place: 0 });

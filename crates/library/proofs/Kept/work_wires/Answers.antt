@@ -1,5 +1,5 @@
 -- What the working of a composite left is a card in its rows.
-use Rattle.std.proofs.Common.{take, arith}
+use Rattle.std.proofs.Common.{take, ap, ◌∙◌, arith}
 use Rattle.costs.specs.Entries.{entry_ops}
 use Rattle.networks.specs.Networks.{network_of}
 use Rattle.networks.specs.Refusals.{Carded, Unworked}
@@ -23,11 +23,12 @@ returns g c =
     let e = c.in_ok-lens.ensures in
     let lens = c.in_ok-lens.lens in
     let out = c.card_in.new.gathered in
-    let names = take c.read_names-n.result c.read_names-n.new.into in
+    let names = take c.count.result c.read_names-names.result in
+    let named = ap (λ n. take n c.read_names-names.result) c.count.ensures ∙ c.read_names-names.ensures in
     let form = form_of sheet.width.bytes sheet.bytes.now sheet.right in
     record {
       answer = λ _. network_card R (faces_kept index s.instances) (cards_kept index cards s.instances) s c.requires.block out lens
-          (over_names index cards names s.instances c.read_names-n.ensures.names (λ f d. Carded R.ops R.gives (network_of s f) d (list_at out lens)) e.answer) e.rows.0.unused;
+          (over_names index cards names s.instances named (λ f d. Carded R.ops R.gives (network_of s f) d (list_at out lens)) e.answer) e.rows.0.unused;
       rows = card_in (entry_ops g.M.Measure.ops).zero s.face.inputs out lens form.few_inputs (omega arith) e.rows.1 (sized_wires (entry_ops g.M.Measure.ops).zero s.face.inputs out lens e.rows.0) e.rows.0.unused (λ k j _. e.rows.0.padded k j);
     }
 
@@ -37,10 +38,11 @@ returns-in_err-lens g c =
     let index = c.args.self.now.index.now in
     let cards = c.args.self.now.cards.now in
     let R = rules g.M.Measure.ops g.M.Measure.wide g.M.Measure.meant g.R.Reducer.gives in
-    let names = take c.read_names-n.result c.read_names-n.new.into in
+    let names = take c.count.result c.read_names-names.result in
+    let named = ap (λ n. take n c.read_names-names.result) c.count.ensures ∙ c.read_names-names.ensures in
     let e = c.in_err-lens.field-0.0 in
     record {
       answer = λ _. rw (passed_is c.from_residual.result _ c.from_residual.ensures) (network_stops R (faces_kept index s.instances) (cards_kept index cards s.instances) s c.requires.block e
-          (over_names index cards names s.instances c.read_names-n.ensures.names (λ f d. Unworked R.ops R.gives (network_of s f) d e) c.in_err-lens.ensures.answer));
+          (over_names index cards names s.instances named (λ f d. Unworked R.ops R.gives (network_of s f) d e) c.in_err-lens.ensures.answer));
       rows = rw (passed_is c.from_residual.result _ c.from_residual.ensures) tt;
     }
