@@ -10,6 +10,7 @@ ghost use Rattle.library.specs.Tables.{overwritten, padded};
 
 use crate::Kept;
 use crate::refusal::{Refusal, Table};
+use crate::row::Row;
 use crate::tables::{overwrite, part};
 use costs::entry::Entry;
 use costs::measure::Measure;
@@ -45,4 +46,26 @@ impl<'a, M: Measure> Kept<'a, M> {
         overwrite(out, 0, part(self.cards, 128 * block + 16 * event, 16));
         Ok(row.lens.get(event).copied().unwrap_or(0))
     }
+}
+
+// The same over index and cards alone: the shelf is not read, so it may be lent elsewhere meanwhile.
+pub fn card<M: Measure, R: Reducer<M>>(
+    index: &[Row],
+    cards: &[Entry<M>],
+    block: usize,
+    event: usize,
+    out: &mut [Entry<M>],
+) -> Result<usize, Refusal>
+    ensures same { is_ok result ≡ false → out.new ≡ out.old }
+    ensures answer { (b : Book M) (shelf : List ℕ) (rows : ℕ) → Stands (rules M.Measure.ops M.Measure.wide M.Measure.meant R.Reducer.gives) b shelf index.now cards.now → Showing (rules M.Measure.ops M.Measure.wide M.Measure.meant R.Reducer.gives) b (record { rows = rows; out = length out.old }) block event (verdict (λ l. take l out.new) result) }
+    ensures len { (b : Book M) (shelf : List ℕ) → Stands (rules M.Measure.ops M.Measure.wide M.Measure.meant R.Reducer.gives) b shelf index.now cards.now → is_ok result ≡ true → result ≡ Ok (length ((at b block).card event)) }
+    ensures rows { (b : Book M) (shelf : List ℕ) → Stands (rules M.Measure.ops M.Measure.wide M.Measure.meant R.Reducer.gives) b shelf index.now cards.now → is_ok result ≡ true → out.new ≡ overwritten out.old 0 (padded (entry_ops M.Measure.ops).zero ((at b block).card event)) }
+    ensures book { (shelf : List ℕ) (rows : ℕ) → GoesOn (rules M.Measure.ops M.Measure.wide M.Measure.meant R.Reducer.gives) (ask_card block event) (record { rows = rows; out = length out.old }) (reply (λ l. shown (take l out.new)) result) shelf index.now cards.now shelf index.now cards.now }
+{
+    let kept = Kept {
+        shelf: &[],
+        index,
+        cards,
+    };
+    kept.card::<R>(block, event, out)
 }

@@ -4,7 +4,7 @@
 mod apply;
 mod beneath;
 pub mod calls;
-mod card;
+pub mod card;
 mod enter;
 mod instances;
 mod mark;
@@ -14,7 +14,7 @@ mod preview;
 mod readers;
 pub mod refusal;
 mod replay;
-mod retime;
+pub mod retime;
 pub mod rework;
 pub mod row;
 mod tables;

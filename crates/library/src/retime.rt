@@ -65,3 +65,25 @@ impl<'a, M: Measure> Library<'a, M> {
         Ok(())
     }
 }
+
+// The same over shelf and index alone: the cards are neither read nor written, so they may be lent elsewhere meanwhile.
+pub fn retime<M: Measure, R: Reducer<M>>(
+    shelf: &mut [u8],
+    index: &mut [Row],
+    block: usize,
+    algorithm: usize,
+    amount: &[u8],
+) -> Result<(), Refusal>
+    ensures same { is_ok result ≡ false → (shelf.new ≡ shelf.old) × (index.new ≡ index.old) }
+    ensures answer { (b : Book M) (cards : List (Entry M)) → Stands (rules M.Measure.ops M.Measure.wide M.Measure.meant R.Reducer.gives) b shelf.old index.old cards → Retiming (rules M.Measure.ops M.Measure.wide M.Measure.meant R.Reducer.gives) b block algorithm amount.now (verdict (λ _. tt) result) }
+    ensures shelf { (b : Book M) (cards : List (Entry M)) → Stands (rules M.Measure.ops M.Measure.wide M.Measure.meant R.Reducer.gives) b shelf.old index.old cards → is_ok result ≡ true → Replaced M.Measure.wide b block algorithm amount.now shelf.old shelf.new }
+    ensures index { (b : Book M) (cards : List (Entry M)) → Stands (rules M.Measure.ops M.Measure.wide M.Measure.meant R.Reducer.gives) b shelf.old index.old cards → is_ok result ≡ true → Remarked b block index.old index.new }
+    ensures book { (cards : List (Entry M)) (lent : Lent) → GoesOn (rules M.Measure.ops M.Measure.wide M.Measure.meant R.Reducer.gives) (ask_retime block algorithm amount.now) lent (reply (λ _. done) result) shelf.old index.old cards shelf.new index.new cards }
+{
+    let mut library = Library {
+        shelf,
+        index,
+        cards: &mut [],
+    };
+    library.retime::<R>(block, algorithm, amount)
+}
