@@ -24,11 +24,17 @@ pub(crate) fn missing(sheet: &Checked<'_>, n: usize) -> Option<usize>
     (0..sheet.count(Item::Instance)).find(|k| is_beyond(sheet, *k, n))
 }
 
-// The numbers of the instances' blocks: as many as there are instances, and 255, which is no block, past them.
+// The numbers of the instances' blocks: as many as there are instances, and 255, which is no block, past them. The sheet is not asked for these: it is
+// walked whole where it has none.
 pub(crate) fn read_names(sheet: &Checked<'_>) -> [u8; 16]
     ensures { take (length (says sheet.now).instances) result ≡ (says sheet.now).instances }
 {
-    array::from_fn(|k| sheet.instance(k).unwrap_or(255))
+    let n = sheet.count(Item::Instance);
+    array::from_fn(|k| if k < n {
+        sheet.instance(k).unwrap_or(255)
+    } else {
+        255
+    })
 }
 
 impl<'a, M: Measure> Kept<'a, M> {

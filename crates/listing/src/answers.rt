@@ -1,5 +1,5 @@
 // The lines about calls and their answers, about a fault of the file, and about marks.
-ghost use Rattle.std.specs.Prelude.{◌≡◌, ◌++◌, take, string_bytes, OnOk};
+ghost use Rattle.std.specs.Prelude.{◌≡◌, ◌++◌, None, codes, take, string_bytes, OnOk};
 ghost use Rattle.library.specs.Calls.{asked};
 ghost use Rattle.library.specs.Refusals.{told as as_told};
 ghost use Rattle.library.specs.Tables.{row_at};
@@ -95,6 +95,19 @@ fn push_refused(text: &mut String, tag: u8, refusal: Refusal) -> Result<(), Allo
     push_numbers(text, tag, &[told.number, told.level, told.place])
 }
 
+// What stands at the head of each entry of a call's lists. It is made where there are lists alone: the outputs of a preview take both checks of its sheet.
+fn entries<M: Measure>(index: &[Row], call: &Call<'_>) -> Heading<'static>
+    ensures word { result.word.now ≡ codes "entry" }
+    ensures block { result.block ≡ None }
+    ensures outputs { result.outputs ≡ outputs_asked M.Measure.wide index.now (asked call.now) }
+{
+    Heading {
+        word: "entry",
+        block: None,
+        outputs: outputs::<M>(index, call),
+    }
+}
+
 // The lines of an answer; its lists stand in these rows.
 fn push_answer<M: Spelt>(
     text: &mut String,
@@ -105,21 +118,16 @@ fn push_answer<M: Spelt>(
 ) -> Result<(), AllocError>
     ensures { OnOk result (string_bytes text.new ≡ string_bytes text.old ++ answer_lines M.Spelt.text M.Measure.wide index.now (asked call.now) answer.now rows.now) }
 {
-    let heading = Heading {
-        word: "entry",
-        block: None,
-        outputs: outputs::<M>(index, call),
-    };
     match answer {
         Ok(Accepted::Entered { block }) => push_numbers(text, tag(call), &[0, *block]),
         Ok(Accepted::Previewed { lens }) => {
             push_numbers(text, tag(call), &[0])?;
-            heading.push_card(text, rows, lens, 8)
+            entries::<M>(index, call).push_card(text, rows, lens, 8)
         }
         Ok(Accepted::Done) => push_numbers(text, tag(call), &[0]),
         Ok(Accepted::Shown { len }) => {
             push_numbers(text, tag(call), &[0, *len])?;
-            heading.push_list(text, event(call), front(rows, *len))
+            entries::<M>(index, call).push_list(text, event(call), front(rows, *len))
         }
         Err(refusal) => push_refused(text, tag(call), *refusal),
     }

@@ -7,7 +7,7 @@ ghost use Rattle.networks.specs.Networks.{says, network_of, Source, Target, Name
 ghost use Rattle.networks.specs.Refusals.{FirstUnnamed, RepeatedBy, FirstRepeated, Distinct, Misnamed};
 
 use crate::beneath::Beneath;
-use crate::net::read_connections;
+use crate::net::{connection_at, read_connections};
 use crate::refusal::Refusal;
 use costs::measure::Measure;
 use sheets::opened::Checked;
@@ -43,16 +43,11 @@ fn is_named<M: Measure, B: Beneath<M>>(sheet: &Checked<'_>, beneath: &B, c: Conn
     is_source(sheet, beneath, c.source) && is_target(sheet, beneath, c.target)
 }
 
-// The first of the sheet's connections with an end that names nothing.
-fn unnamed<M: Measure, B: Beneath<M>>(
-    sheet: &Checked<'_>,
-    beneath: &B,
-    cs: &[Connection],
-) -> Option<usize>
-    requires { cs.now ≡ (says sheet.now).connections }
+// The first of the sheet's connections with an end that names nothing. Those behind it are not read.
+fn unnamed<M: Measure, B: Beneath<M>>(sheet: &Checked<'_>, beneath: &B) -> Option<usize>
     ensures { MatchOption result (Named (network_of (says sheet.now) (B.faces beneath.now))) (FirstUnnamed (network_of (says sheet.now) (B.faces beneath.now))) }
 {
-    cs.iter().position(|c| !is_named(sheet, beneath, *c))
+    (0..sheet.count(Item::Connection)).find(|k| !is_named(sheet, beneath, connection_at(sheet, *k)))
 }
 
 // Whether connection k stands among those before it.
@@ -82,14 +77,13 @@ fn offset_at(sheet: &Checked<'_>, k: usize) -> usize
 pub fn names<M: Measure, B: Beneath<M>>(sheet: &Checked<'_>, beneath: &B) -> Result<(), Refusal>
     ensures { MatchResult result (λ _. Named (network_of (says sheet.now) (B.faces beneath.now)) × Distinct (says sheet.now).connections) (Misnamed (network_of (says sheet.now) (B.faces beneath.now)) (offsets_of OfConnection sheet.now.bytes.now)) }
 {
-    let wires = read_connections(sheet);
-    let cs = &wires[..sheet.count(Item::Connection)];
-    if let Some(k) = unnamed(sheet, beneath, cs) {
+    if let Some(k) = unnamed(sheet, beneath) {
         return Err(Refusal::Unnamed {
             at: offset_at(sheet, k),
         });
     }
-    if let Some(second) = repeated(cs) {
+    let wires = read_connections(sheet);
+    if let Some(second) = repeated(&wires[..sheet.count(Item::Connection)]) {
         return Err(Refusal::Repeated {
             at: offset_at(sheet, second),
         });

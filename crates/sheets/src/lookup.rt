@@ -44,7 +44,9 @@ pub(crate) fn field<'a>(bytes: &'a [u8], tag: Tag, k: usize) -> Option<Field<'a>
 pub(crate) fn piece<'a>(content: &'a [u8], width: Width, k: usize) -> Option<&'a [u8]>
     ensures { option_map (λ a. a.now) result ≡ slice_get (amounts_at width.bytes content.now) k }
 {
-    content.chunks_exact(width.bytes).nth(k)
+    // by its place, since going through the parts before it takes a step for each
+    let at = k.checked_mul(width.bytes)?;
+    content.get(at..)?.get(..width.bytes)
 }
 
 pub(crate) fn action_at(content: &[u8], j: usize) -> Option<Action>

@@ -22,7 +22,7 @@ plan-requires g c =
     let n = c.count-n.result in
     let few = (form_of sheet.width.bytes sheet.bytes.now sheet.right).few_states in
     let size = length-take-le n c.args.marks.now (omega (arith, c.count-n.ensures, few)) in
-    record { marks = size ∙ c.count-n.ensures; rows = omega (arith, size, c.count-n.ensures, few) }
+    record { can = tt; marks = size ∙ c.count-n.ensures; rows = omega (arith, size, c.count-n.ensures, few) }
 
 pub slice_bounds-plan-end-2 : goal.slice_bounds-plan-end-2
 slice_bounds-plan-end-2 g c =
