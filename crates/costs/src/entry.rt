@@ -40,11 +40,11 @@ impl<M: Measure> Entry<M> {
         }
     }
 
-    // Whether its amount covers and no count is lower.
+    // Whether its amount covers and no count is lower. Both are asked, by `&`: which of them fails cannot be foretold.
     pub fn covers(self, other: Entry<M>) -> bool
         ensures { result ≡ (entry_ops M.Measure.ops).covers self other }
     {
-        self.amount.covers(other.amount) && self.counts.covers(other.counts)
+        self.amount.covers(other.amount) & self.counts.covers(other.counts)
     }
 
     // The higher amount, and the greater count of each output.

@@ -1,5 +1,5 @@
 -- One field more of a file, and the rows of one call more. Assumes nothing.
-use Rattle.std.proofs.Common.{◌≡◌, ℕ, ◌+◌, ◌-◌, ◌^◌, List, [], ◌∷◌, ◌++◌, map, Some, None, sym, ap, ◌∙◌, append_assoc, append-nil, arith}
+use Rattle.std.proofs.Common.{◌≡◌, ℕ, ◌+◌, ◌-◌, ◌^◌, List, [], ◌∷◌, ◌++◌, map, Some, None, sym, ap, subst, ◌∙◌, append_assoc, append-nil, arith}
 use Rattle.std.proofs.lemmas.List.{map_push}
 use Rattle.sheets.specs.Frames.{Raw, size, fields, laid}
 use Rattle.sheets.specs.Parts.{raw}
@@ -23,10 +23,15 @@ module _ (form : Form) (bs : List ℕ) (left : List (ℕ × Raw)) (end : ℕ) (s
     t : Next end read.more x rest
     t = next end read.more x rest (read.is ∙ gives)
 
-    pub call_more : (call : Call) (now : List Call) → Some (made_of call) ≡ call_of form (raw x.part) → now ≡ so ++ call ∷ [] → Read form bs rest x.end (map made_of now)
-    call_more call now makes added =
+    -- where the field ends
+    pub field_end : x.end ≡ end + size (raw x.part)
+    field_end = t.end
+
+    -- the calls with this one, up to the offset that the code takes for where the field ends
+    pub call_more : (call : Call) (now : List Call) (at : ℕ) → Some (made_of call) ≡ call_of form (raw x.part) → now ≡ so ++ call ∷ [] → x.end ≡ at → Read form bs rest at (map made_of now)
+    call_more call now at makes added ends =
         let others = calls_of form t.after in
-        record {
+        subst (λ n. Read form bs rest n (map made_of now)) ends record {
           more = t.after;
           is = sym t.left;
           all =
