@@ -1,4 +1,4 @@
-// What is done with counts: made, read, added, compared and raised, output by output.
+// What is done with counts: made, read, added and raised output by output, and compared all at once.
 ghost use Rattle.std.specs.Prelude.{◌≡◌, ℕ, ◌<◌, slice_index};
 ghost use Rattle.costs.specs.Entries.{counts_ops, counts_of, no_counts, one_count};
 

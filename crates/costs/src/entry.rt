@@ -40,7 +40,7 @@ impl<M: Measure> Entry<M> {
         }
     }
 
-    // Whether its amount covers and no count is lower. Both are asked, by `&`: which of them fails cannot be foretold.
+    // Whether its amount covers and no count is lower. By `&`, of which the compiler makes faster code here than of `&&`.
     pub fn covers(self, other: Entry<M>) -> bool
         ensures { result ≡ (entry_ops M.Measure.ops).covers self other }
     {
